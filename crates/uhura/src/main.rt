@@ -1,0 +1,4 @@
+//! Uhura: reads a script of edits and questions, and answers line by line.
+#![tactic(auto)]
+
+fn main() {}

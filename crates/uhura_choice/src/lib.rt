@@ -1,0 +1,2 @@
+//! Branches: one pick for each choice, in the order of the choices.
+#![tactic(auto)]

@@ -1,0 +1,2 @@
+//! One dialogue: what is answered to a line, and the state after it.
+#![tactic(auto)]

@@ -1,0 +1,2 @@
+//! Text of scripts: lines out of bytes, words out of a line, numbers both ways.
+#![tactic(auto)]
