@@ -1,0 +1,4 @@
+pub mod Proposal
+pub mod Allowed
+pub mod Cost
+pub mod Best

@@ -1,0 +1,17 @@
+//! What a planner rules out.
+use uhura_plan::{Guard, Name, SideKey};
+
+/// A combination of picks that no proposal may have, or the most units, from 0 to 1,000,000,000, that a
+/// side may be loosened or narrowed by.
+#[derive(Drop)]
+pub enum Veto {
+    Deny {
+        name: Name,
+        literals: Guard,
+    },
+    Cap {
+        name: Name,
+        key: SideKey,
+        units: u32,
+    },
+}
