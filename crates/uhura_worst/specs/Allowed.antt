@@ -18,13 +18,13 @@ pub record Allowed (state : State) (k : ℕ) (q : Proposal) : Type 0 where
   pub not_denied : IsFalse (is_denied state.vetoes q.branch)
   -- the units of each side lie within the room, and are 0 on requirements that aren't active
   pub loosened_within : (side : Side) (r : Requirement) → Contains state.plan.requirements r →
-    IsWithinRoom k (requirement_room state.vetoes side r) (loosened q side r)
+      IsWithinRoom k (requirement_room state.vetoes side r) (loosened q side r)
   pub loosened_active : (side : Side) (r : Requirement) → Contains state.plan.requirements r →
-    IsFalse (holds r.guard q.branch) → loosened q side r ≡ 0
+      IsFalse (holds r.guard q.branch) → loosened q side r ≡ 0
   pub narrowed_within : (side : Side) (d : ℕ) (u : Uncertain) → slice_get state.plan.uncertains d ≡ Some u →
-    IsWithinRoom k (duration_room state.vetoes d side u) (narrowed q side d)
+      IsWithinRoom k (duration_room state.vetoes d side u) (narrowed q side d)
   -- no range left is empty
   pub ranges_left : (d : ℕ) (u : Uncertain) → slice_get state.plan.uncertains d ≡ Some u →
-    least_left k q d u ≤ℤ greatest_left k q d u
+      least_left k q d u ≤ℤ greatest_left k q d u
   -- the schedule meets the requirements whatever the durations
   pub meets : Meets state.plan k q

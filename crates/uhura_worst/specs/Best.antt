@@ -14,7 +14,7 @@ pub record IsCheapest (state : State) (p : Proposal) : Type 0 where
 -- nothing that is allowed and costs the same has an earlier branch
 abbrev pub IsFirst : State → Proposal → Type 0
 IsFirst state p = (k : ℕ) (q : Proposal) → Allowed state k q → cost state.plan k q ≡ k * cost state.plan 1 p →
-  IsEarlier q.branch p.branch → ⊥
+    IsEarlier q.branch p.branch → ⊥
 
 -- each controllable event has a time of at least 0
 abbrev pub StartsAtZero : State → (ℕ → ℤ) → Type 0
@@ -25,7 +25,7 @@ StartsAtZero state times = (e : ℕ) → e < length state.plan.events → pos 0 
 pub record IsEarliest (state : State) (p : Proposal) : Type 0 where
   pub from_zero : StartsAtZero state p.times
   pub least : (times : ℕ → ℤ) → StartsAtZero state times → Meets state.plan 1 (record p { times = times }) →
-    (e : ℕ) → e < length state.plan.events → p.times e ≤ℤ times e
+      (e : ℕ) → e < length state.plan.events → p.times e ≤ℤ times e
 
 -- the answer to a question
 pub record IsBest (state : State) (p : Proposal) : Type 0 where

@@ -29,5 +29,5 @@ narrowings_cost q d (u ∷ us) = narrowing_cost q d Lower u + narrowing_cost q d
 -- the cost of a proposal at scale k, in k-ths: the picked alternatives, and the units of all sides
 abbrev pub cost : Lists → ℕ → Proposal → ℕ
 cost plan k q = k * picked_cost plan.choices q.branch
-  + sum_by (λ r. loosening_cost q Lower r + loosening_cost q Upper r) plan.requirements
-  + narrowings_cost q 0 plan.uncertains
+    + sum_by (λ r. loosening_cost q Lower r + loosening_cost q Upper r) plan.requirements
+    + narrowings_cost q 0 plan.uncertains

@@ -37,7 +37,7 @@ greatest_left k q d u = (pos k *ℤ u.upper) -ℤ pos (narrowed q Upper d)
 -- each duration of the list, one for each uncertain duration in place d, lies within the range left
 abbrev pub AreLeft : Lists → ℕ → Proposal → (ℕ → ℤ) → Type 0
 AreLeft plan k q durations = (d : ℕ) (u : Uncertain) → slice_get plan.uncertains d ≡ Some u →
-  (least_left k q d u ≤ℤ durations d) × (durations d ≤ℤ greatest_left k q d u)
+    (least_left k q d u ≤ℤ durations d) × (durations d ≤ℤ greatest_left k q d u)
 
 -- the time of an event: its own where it is controllable, and the time of its start plus its duration where it
 -- is an end
@@ -53,5 +53,5 @@ pub record IsWithin (k : ℕ) (q : Proposal) (r : Requirement) (difference : ℤ
 -- whichever of the durations left nature picks, each requirement that is active in the branch is met
 abbrev pub Meets : Lists → ℕ → Proposal → Type 0
 Meets plan k q = (durations : ℕ → ℤ) → AreLeft plan k q durations →
-  (r : Requirement) → Contains plan.requirements r → IsTrue (holds r.guard q.branch) →
-  IsWithin k q r (time_of plan q durations r.to -ℤ time_of plan q durations r.from)
+    (r : Requirement) → Contains plan.requirements r → IsTrue (holds r.guard q.branch) →
+    IsWithin k q r (time_of plan q durations r.to -ℤ time_of plan q durations r.from)

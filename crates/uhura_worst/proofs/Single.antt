@@ -1,0 +1,13 @@
+-- Lists with one element.
+use Rattle.std.proofs.Common.{◌≡◌, ℕ, zero, suc, [], ◌∷◌, subst, arith}
+use Rattle.std.specs.Prelude.{Contains, slice_get, Some}
+
+-- what holds of the one element holds of each element
+pub for_single : {X : Type 0} (P : X → Type 0) (x r : X) → Contains (x ∷ []) r → P x → P r
+for_single P x r (zero, below, is) p = subst P is p
+for_single P x r (suc k, below, is) p = absurd (omega (arith, below))
+
+-- and of the element at each place
+pub at_single : {X : Type 0} (P : ℕ → X → Type 0) (x r : X) (k : ℕ) → slice_get (x ∷ []) k ≡ Some r → P 0 x → P k r
+at_single P x r zero is p = let same : x ≡ r = cc in subst (P 0) same p
+at_single P x r (suc k) is p = cc

@@ -1,0 +1,94 @@
+-- Worked plans on which the definitions are tried.
+use Rattle.std.specs.Prelude.{ℕ, zero, suc, ℤ, pos, List, [], ◌∷◌, None, Some, codes}
+use Rattle.uhura_plan.specs.declared.key.Side.{Side}
+use Rattle.uhura_plan.specs.declared.key.Side.TheVariants.{Lower, Upper}
+use Rattle.uhura_plan.specs.declared.key.Item.TheVariants as item
+use Rattle.uhura_plan.specs.declared.key.SideKey.{SideKey}
+use Rattle.uhura_plan.specs.declared.key.EventRef.TheVariants.{Controllable, End}
+use Rattle.uhura_plan.specs.declared.requirement.Requirement.{Requirement}
+use Rattle.uhura_plan.specs.declared.requirement.Bounded.{Bounded}
+use Rattle.uhura_plan.specs.declared.uncertain.Uncertain.{Uncertain}
+use Rattle.uhura_plan.specs.declared.choice.Choice.{Choice}
+use Rattle.uhura_choice.specs.declared.prefix.Pick.{Pick}
+use Rattle.uhura_choice.specs.declared.prefix.Pick.TheVariants.{Alternative}
+use Rattle.uhura_veto.specs.State.{State}
+use Rattle.uhura_worst.specs.Units.{units_in}
+use Rattle.uhura_worst.specs.Proposal.{Proposal}
+
+-- a side without a bound, with a bound, and with a bound and a price for each unit
+abbrev pub unbounded : Bounded
+unbounded = record { bound = None; price = None }
+
+abbrev pub bounded : ℤ → Bounded
+bounded b = record { bound = Some b; price = None }
+
+abbrev pub priced : ℤ → ℕ → Bounded
+priced b rate = record { bound = Some b; price = Some (record { rate = rate; most = None }) }
+
+-- the proposal with this branch and these units that puts every event at 0
+abbrev pub at_zero : List Pick → List (SideKey × ℕ) → Proposal
+at_zero branch pairs = record { branch = branch; units = units_in pairs; times = λ e. pos 0 }
+
+abbrev pub requirement_side : ℕ → Side → SideKey
+requirement_side slot side = record { item = item.Requirement slot; side = side }
+
+abbrev pub duration_side : ℕ → Side → SideKey
+duration_side d side = record { item = item.Uncertain d; side = side }
+
+-- A drive of 30 to 50 minutes that may be cut at 3 a minute, with dinner at most 40 minutes after leaving home,
+-- or later at 2 a minute.
+abbrev pub drive : Uncertain
+drive = record { name = codes "drive"; start = 0; end = codes "arrive"; lower = pos 30; upper = pos 50; lower_rate = None; upper_rate = Some 3 }
+
+abbrev pub dinner : Requirement
+dinner = record { name = codes "dinner"; slot = 0; from = Controllable 0; to = End 0; lower = unbounded; upper = priced (pos 40) 2; guard = [] }
+
+abbrev pub evening_drive : State
+evening_drive = record { plan = record { events = codes "home" ∷ []; uncertains = drive ∷ []; choices = []; requirements = dinner ∷ [] }; vetoes = [] }
+
+-- dinner later by so many minutes
+abbrev pub dinner_later : ℕ → Proposal
+dinner_later minutes = at_zero [] ((requirement_side 0 Upper, minutes) ∷ [])
+
+-- A duration of 10 to 20 whose end is to come at least 16 and at most 14 after its start. It may be narrowed at
+-- both ends, but not to nothing.
+abbrev pub stretch : Uncertain
+stretch = record { name = codes "d"; start = 0; end = codes "e"; lower = pos 10; upper = pos 20; lower_rate = Some 2; upper_rate = Some 3 }
+
+abbrev pub not_before : Requirement
+not_before = record { name = codes "p"; slot = 0; from = Controllable 0; to = End 0; lower = bounded (pos 16); upper = unbounded; guard = [] }
+
+abbrev pub not_after : Requirement
+not_after = record { name = codes "q"; slot = 1; from = Controllable 0; to = End 0; lower = unbounded; upper = bounded (pos 14); guard = [] }
+
+abbrev pub squeezed : State
+squeezed = record { plan = record { events = codes "s" ∷ []; uncertains = stretch ∷ []; choices = []; requirements = not_before ∷ not_after ∷ [] }; vetoes = [] }
+
+-- the range from 16 to 14 is left
+abbrev pub narrowed_to_nothing : Proposal
+narrowed_to_nothing = at_zero [] ((duration_side 0 Lower, 6) ∷ (duration_side 0 Upper, 6) ∷ [])
+
+-- Two alternatives, of cost 5 and 3. With the second, b comes at least 12 after a, and one bound has to be
+-- loosened by 2 at 1 each: so both branches cost 5.
+abbrev pub side_choice : Choice
+side_choice = record { name = codes "c"; alternatives = (codes "left", 5) ∷ (codes "right", 3) ∷ []; guard = [] }
+
+abbrev pub near : Requirement
+near = record { name = codes "near"; slot = 0; from = Controllable 0; to = Controllable 1; lower = unbounded; upper = priced (pos 10) 1; guard = [] }
+
+abbrev pub far : Requirement
+far = record { name = codes "far"; slot = 1; from = Controllable 0; to = Controllable 1; lower = bounded (pos 12); upper = unbounded; guard = record { choice = 0; alternative = 1 } ∷ [] }
+
+abbrev pub two_sides : State
+two_sides = record { plan = record { events = codes "a" ∷ codes "b" ∷ []; uncertains = []; choices = side_choice ∷ []; requirements = near ∷ far ∷ [] }; vetoes = [] }
+
+abbrev pub by_left : Proposal
+by_left = at_zero (Alternative 0 ∷ []) []
+
+-- b at 12
+abbrev pub right_times : ℕ → ℤ
+right_times zero = pos 0
+right_times (suc e) = pos 12
+
+abbrev pub by_right : Proposal
+by_right = record { branch = Alternative 1 ∷ []; units = units_in ((requirement_side 0 Upper, 2) ∷ []); times = right_times }
