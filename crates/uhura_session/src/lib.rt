@@ -1,2 +1,7 @@
 //! One dialogue: what is answered to a line, and the state after it.
 #![tactic(auto)]
+
+mod reading;
+mod schedule;
+
+pub use reading::{Reading, Request};
