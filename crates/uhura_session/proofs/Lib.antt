@@ -1,0 +1,2 @@
+pub mod PlainMeets
+pub mod PlainBest

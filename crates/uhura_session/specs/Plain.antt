@@ -1,0 +1,49 @@
+-- The plans that the lines so far make, and what their requirements say of the times of their events.
+use Rattle.std.specs.Prelude.{◌≡◌, ℕ, ◌<◌, ℤ, neg_ℤ, List, [], ◌∷◌, ◌++◌, length, flat_map, None, Some, Option}
+use Rattle.std.specs.List.{All}
+use Rattle.uhura_plan.specs.Lists.{Lists}
+use Rattle.uhura_plan.specs.declared.key.EventRef.{EventRef}
+use Rattle.uhura_plan.specs.declared.key.EventRef.TheVariants.{Controllable, End}
+use Rattle.uhura_plan.specs.declared.requirement.Requirement.{Requirement}
+use Rattle.uhura_session.specs.declared.schedule.Constraint.{Constraint}
+
+-- a controllable event of the plan
+abbrev pub IsControllable : Lists → EventRef → Type 0
+IsControllable plan (Controllable e) = e < length plan.events
+IsControllable plan (End d) = ⊥
+
+-- a requirement between controllable events, without prices and without a guard
+pub record IsPlainRequirement (plan : Lists) (r : Requirement) : Type 0 where
+  pub from : IsControllable plan r.from
+  pub to : IsControllable plan r.to
+  pub lower : r.lower.price ≡ None
+  pub upper : r.upper.price ≡ None
+  pub guard : r.guard ≡ []
+
+-- a plan of controllable events and plain requirements
+pub record IsPlain (plan : Lists) : Type 0 where
+  pub uncertains : plan.uncertains ≡ []
+  pub choices : plan.choices ≡ []
+  pub requirements : All (IsPlainRequirement plan) plan.requirements
+
+-- the place of a controllable event
+abbrev pub node_of : EventRef → ℕ
+node_of (Controllable e) = e
+node_of (End d) = 0
+
+-- a lower bound says how long after `from` the event `to` comes at least
+abbrev pub lower_constraint : Requirement → Option ℤ → List Constraint
+lower_constraint r None = []
+lower_constraint r (Some least) = record { from = node_of r.from; to = node_of r.to; least = least } ∷ []
+
+-- an upper bound says the same of `from` after `to`, with the bound's opposite
+abbrev pub upper_constraint : Requirement → Option ℤ → List Constraint
+upper_constraint r None = []
+upper_constraint r (Some most) = record { from = node_of r.to; to = node_of r.from; least = neg_ℤ most } ∷ []
+
+abbrev pub constraints_of : Requirement → List Constraint
+constraints_of r = lower_constraint r r.lower.bound ++ upper_constraint r r.upper.bound
+
+-- the constraints of all requirements, in their order
+abbrev pub all_constraints : List Requirement → List Constraint
+all_constraints rs = flat_map constraints_of rs
