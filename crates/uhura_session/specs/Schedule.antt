@@ -19,11 +19,15 @@ Meets constraints s = All (Holds s) constraints
 abbrev pub IsNonNegativeBelow : ℕ → (ℕ → ℤ) → Type 0
 IsNonNegativeBelow nodes s = (node : ℕ) → node < nodes → pos 0 ≤ℤ s node
 
+-- at none of its nodes a list of times is later than the schedule
+abbrev pub IsNowhereAfter : List ℤ → (ℕ → ℤ) → Type 0
+IsNowhereAfter times s = (node : ℕ) → node < length times → time_at times node ≤ℤ s node
+
 -- the times are a schedule from 0 on, and at no node later than any other such schedule
 pub record IsEarliest (constraints : List Constraint) (times : List ℤ) : Type 0 where
   pub nonneg : IsNonNegativeBelow (length times) (time_at times)
   pub meets : Meets constraints (time_at times)
-  pub least : (s : ℕ → ℤ) → IsNonNegativeBelow (length times) s → Meets constraints s → (node : ℕ) → node < length times → time_at times node ≤ℤ s node
+  pub least : (s : ℕ → ℤ) → IsNonNegativeBelow (length times) s → Meets constraints s → IsNowhereAfter times s
 
 -- no schedule meets the constraints, at times below 0 or above
 abbrev pub HasNoSchedule : List Constraint → Type 0
