@@ -9,7 +9,7 @@ use Rattle.std.proofs.lemmas.Int.{ints}
 use borrow.Author.Differences.{up, down}
 use Rattle.uhura_session.specs.declared.schedule.Constraint.{Constraint}
 use Rattle.uhura_session.specs.Schedule.{Meets, HasEndsBelow, HasNoSchedule}
-use Rattle.uhura_session.proofs.Sums.{sum_below, sum_below-le, sum_below-lt, sum_below-member, sum_below-ones, sum_below-agree}
+use Rattle.uhura_session.proofs.Sums.{sum_below, sum_below-lt, sum_below-member, sum_below-ones, sum_below-agree}
 
 -- a schedule from 0 on, as whole numbers
 abbrev pub Fits : List Constraint → (ℕ → ℕ) → Type 0
@@ -34,7 +34,7 @@ pub record IsTightBeyond (k : ℕ) (constraints : List Constraint) (nodes : ℕ)
   pub each : (s : ℕ → ℕ) → Fits constraints s → (k < sum_below nodes (tight times s)) ⊎ HasSmaller constraints nodes s
 
 -- one pass: no time falls, one rises, each constraint is met from the old times to the new ones, and each schedule stays above
-pub record IsPass (constraints : List Constraint) (nodes : ℕ) (old new : ℕ → ℕ) : Type 0 where
+pub record IsRound (constraints : List Constraint) (nodes : ℕ) (old new : ℕ → ℕ) : Type 0 where
   pub grows : (node : ℕ) → node < nodes → old node ≤ new node
   pub relaxed : All (λ c. (pos (old c.from) +ℤ c.least) ≤ℤ pos (new c.to)) constraints
   pub below : (s : ℕ → ℕ) → Fits constraints s → (node : ℕ) → node < nodes → new node ≤ s node
@@ -47,7 +47,7 @@ lowered-holds : (a a' b' s t : ℕ) (least : ℤ) → (pos a +ℤ least) ≤ℤ 
 lowered-holds a a' b' s t least relaxed holds grows below_from below_to kept = omega (arith, ints)
 
 -- where no node becomes tight by a pass, the lowered schedule has a smaller sum
-smaller_where_none_joins : (constraints : List Constraint) (nodes : ℕ) (old new s : ℕ → ℕ) → HasEndsBelow nodes constraints → IsPass constraints nodes old new → Fits constraints s → ((node : ℕ) → node < nodes → tight new s node ≤ tight old s node) → HasSmaller constraints nodes s
+smaller_where_none_joins : (constraints : List Constraint) (nodes : ℕ) (old new s : ℕ → ℕ) → HasEndsBelow nodes constraints → IsRound constraints nodes old new → Fits constraints s → ((node : ℕ) → node < nodes → tight new s node ≤ tight old s node) → HasSmaller constraints nodes s
 smaller_where_none_joins constraints nodes old new s ends pass fits kept = record {
   schedule = lowered new s;
   fits = λ i d inside.
@@ -63,7 +63,7 @@ smaller_where_none_joins constraints nodes old new s ends pass fits kept = recor
 }
 
 -- one more pass makes one more node tight, or gives a schedule with a smaller sum
-pub IsTightBeyond-pass : (k : ℕ) (constraints : List Constraint) (nodes : ℕ) (old new : ℕ → ℕ) → HasEndsBelow nodes constraints → IsPass constraints nodes old new → IsTightBeyond k constraints nodes old → IsTightBeyond (k + 1) constraints nodes new
+pub IsTightBeyond-pass : (k : ℕ) (constraints : List Constraint) (nodes : ℕ) (old new : ℕ → ℕ) → HasEndsBelow nodes constraints → IsRound constraints nodes old new → IsTightBeyond k constraints nodes old → IsTightBeyond (k + 1) constraints nodes new
 IsTightBeyond-pass k constraints nodes old new ends pass tight_so_far = record {
   each = λ s fits.
       let grown : (i : ℕ) → i < nodes → tight old s i ≤ tight new s i = λ i h. omega (arith, pass.grows i h) in
@@ -98,14 +98,14 @@ IsTightBeyond-start constraints nodes times ends some zero_times = record {
 }
 
 -- no schedule from 0 on, by recursion on a bound of its sum
-none_from_zero : (bound : ℕ) (constraints : List Constraint) (nodes : ℕ) (times s : ℕ → ℕ) → IsTightBeyond nodes constraints nodes times → Fits constraints s → sum_below nodes s < bound → ⊥
-none_from_zero zero constraints nodes times s beyond fits below = omega arith
-none_from_zero (suc bound) constraints nodes times s beyond fits below =
+none_from_zero : (bound k : ℕ) (constraints : List Constraint) (nodes : ℕ) (times s : ℕ → ℕ) → nodes ≤ k → IsTightBeyond k constraints nodes times → Fits constraints s → sum_below nodes s < bound → ⊥
+none_from_zero zero k constraints nodes times s enough beyond fits below = omega arith
+none_from_zero (suc bound) k constraints nodes times s enough beyond fits below =
     elim (beyond.each s fits) [
       | inl more ↦
           let most : sum_below nodes (tight times s) ≤ nodes = sum_below-ones nodes (tight times s) (λ i h. omega arith) in
           omega arith
-      | inr smaller ↦ none_from_zero bound constraints nodes times smaller.schedule beyond smaller.fits (omega (arith, smaller.less))
+      | inr smaller ↦ none_from_zero bound k constraints nodes times smaller.schedule enough beyond smaller.fits (omega (arith, smaller.less))
     ]
 
 -- a time of at least 0 is a whole number
@@ -114,8 +114,8 @@ pos-up (pos n) above = refl
 pos-up (negsuc n) above = absurd (omega (arith, ints))
 
 -- after as many passes as there are nodes there is no schedule at all, since one could be moved to start at 0 or later
-pub IsTightBeyond-none : (constraints : List Constraint) (nodes : ℕ) (times : ℕ → ℕ) → HasEndsBelow nodes constraints → IsTightBeyond nodes constraints nodes times → HasNoSchedule constraints
-IsTightBeyond-none constraints nodes times ends beyond s meets =
+pub IsTightBeyond-none : (k : ℕ) (constraints : List Constraint) (nodes : ℕ) (times : ℕ → ℕ) → nodes ≤ k → HasEndsBelow nodes constraints → IsTightBeyond k constraints nodes times → HasNoSchedule constraints
+IsTightBeyond-none k constraints nodes times all_rounds ends beyond s meets =
     let far : ℕ = sum_below nodes (λ node. down (s node)) in
     let moved : ℕ → ℕ = λ node. up (s node +ℤ pos far) in
     let at : (node : ℕ) → node < nodes → pos (moved node) ≡ s node +ℤ pos far = λ node inside.
@@ -123,4 +123,4 @@ IsTightBeyond-none constraints nodes times ends beyond s meets =
     pos-up (s node +ℤ pos far) (omega (arith, ints)) in
     let fits : Fits constraints moved = λ i d inside.
     omega (arith, ints, meets i d inside, at (slice_index_or constraints i d).from (ends i d inside).0, at (slice_index_or constraints i d).to (ends i d inside).1) in
-    none_from_zero (suc (sum_below nodes moved)) constraints nodes times moved beyond fits (omega arith)
+    none_from_zero (suc (sum_below nodes moved)) k constraints nodes times moved all_rounds beyond fits (omega arith)

@@ -1,8 +1,8 @@
 -- What one constraint, and one pass over all of them, does to the times found so far.
-use Rattle.std.specs.Prelude.{ℕ, ◌+◌, ◌*◌, ◌<◌, ◌≡◌, Bool, true, false, ℤ, pos, ◌+ℤ◌, ◌≤ℤ◌, ◌<ℤ◌, List, length, slice_set}
+use Rattle.std.specs.Prelude.{ℕ, ◌<◌, ◌≡◌, Bool, true, false, ℤ, pos, ◌+ℤ◌, ◌≤ℤ◌, ◌<ℤ◌, List, length, slice_set}
 use Rattle.std.specs.List.{All}
 use Rattle.uhura_session.specs.declared.schedule.Constraint.{Constraint}
-use Rattle.uhura_session.specs.Schedule.{time_at, Holds, Meets, IsNowhereAfter}
+use Rattle.uhura_session.specs.Schedule.{time_at, Meets, IsNowhereAfter}
 
 -- the least time of `to` that the constraint allows
 abbrev pub asked_of : Constraint → List ℤ → ℤ

@@ -1,5 +1,5 @@
 -- A schedule gives each node a time. A constraint says how long after one node another comes at least.
-use Rattle.std.specs.Prelude.{ℕ, ◌<◌, ◌≤◌, ℤ, pos, negsuc, ◌+ℤ◌, ◌≤ℤ◌, List, length, slice_index_or}
+use Rattle.std.specs.Prelude.{ℕ, ◌<◌, ℤ, pos, negsuc, ◌+ℤ◌, ◌≤ℤ◌, List, length, slice_index_or}
 use Rattle.std.specs.List.{All}
 use Rattle.uhura_session.specs.declared.schedule.Constraint.{Constraint}
 

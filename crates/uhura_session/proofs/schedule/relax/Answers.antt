@@ -9,5 +9,5 @@ returns-then-times-constraint c =
     let times = c.args.times.now in
     let room = c.requires.room c.args.constraint.from in
     let asked : to_z w64 (of_z w64 (to_z w64 (of_z w64 (slice_index_or times c.args.constraint.from (pos 0))) +ℤ to_z w64 (of_z w64 c.args.constraint.least))) ≡ asked_of c.args.constraint times =
-        omega (arith, ints, room) in
+    omega (arith, ints, room) in
     (omega (arith, ints, asked), ap (slice_set times c.args.constraint.to) asked)
