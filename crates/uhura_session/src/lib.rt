@@ -1,2 +1,4 @@
 //! One dialogue: what is answered to a line, and the state after it.
 #![tactic(auto)]
+
+mod schedule;

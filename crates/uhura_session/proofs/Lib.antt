@@ -1,0 +1,4 @@
+pub mod Sums
+pub mod Descent
+pub mod Passing
+pub mod Rounds
