@@ -1,5 +1,5 @@
 //! A line of text: its words, or the byte that may not stand in it.
-ghost use Rattle.std.specs.Prelude.{◌≡◌, ◌^◌, ◌-◌, None, Some, min, IfOk, IfErr};
+ghost use Rattle.std.specs.Prelude.{◌≡◌, ◌^◌, ◌-◌, None, Some, min, not, find, IfOk, IfErr};
 ghost use Rattle.std.specs.Option.{option_map};
 ghost use Rattle.uhura_text.specs.Words.{first_bad, is_blank, is_graphic, is_quiet, words};
 
@@ -12,19 +12,13 @@ pub struct BadByte {
 }
 
 /// The words of a line, or its first byte that is neither space, tab nor from 0x21 to 0x7E.
-#[tactic(auto, unfolding(crate::specs::Words::first_bad))]
 pub fn words(line: &[u8]) -> Result<Words<'_>, BadByte>
     ensures words { IfOk result (λ w. w ≡ words line.now) }
     ensures good { IfOk result (λ _. first_bad line.now ≡ None) }
     ensures bad { IfErr result (λ e. option_map (min (2 ^ 32 - 1)) (first_bad line.now) ≡ Some e.at) }
 {
-    match line
-        .iter()
-        .position(|byte| !is_blank(*byte) && !is_graphic(*byte))
-    {
-        Some(at) => Err(BadByte {
-            at: u32::try_from(at).unwrap_or(u32::MAX),
-        }),
+    match first_bad(line) {
+        Some(place) => Err(BadByte { at: capped(place) }),
         None => Ok(Words::new(line)),
     }
 }
@@ -34,10 +28,33 @@ pub fn words(line: &[u8]) -> Result<Words<'_>, BadByte>
 pub fn is_quiet(line: &[u8]) -> bool
     ensures { result ≡ is_quiet line.now }
 {
-    match line.iter().find(|byte| !is_blank(**byte)) {
-        Some(byte) => *byte == b'#',
+    match first_nonblank(line) {
+        Some(byte) => byte == b'#',
         None => true,
     }
+}
+
+// The first byte that is no blank.
+fn first_nonblank(line: &[u8]) -> Option<u8>
+    ensures { result ≡ find (λ b. not (is_blank b)) line.now }
+{
+    line.iter().copied().find(|byte| !is_blank(*byte))
+}
+
+// The place of the first byte that may not stand in a line.
+#[tactic(auto, unfolding(crate::specs::Words::first_bad))]
+fn first_bad(line: &[u8]) -> Option<usize>
+    ensures { result ≡ first_bad line.now }
+{
+    line.iter()
+        .position(|byte| !(is_blank(*byte) || is_graphic(*byte)))
+}
+
+// The place as a `u32`, or the last one past it.
+fn capped(place: usize) -> u32
+    ensures { result ≡ min (2 ^ 32 - 1) place }
+{
+    u32::try_from(place).unwrap_or(u32::MAX)
 }
 
 // A space or a tab.

@@ -1,6 +1,6 @@
 //! The words of a line, lent one by one.
-ghost use Rattle.std.specs.Prelude.{◌≡◌, ◌∷◌, [], IfSome, IfNone};
-ghost use Rattle.std.specs.List.{prefix_len, position_or_len};
+ghost use Rattle.std.specs.Prelude.{◌≡◌, ◌≤◌, ◌∷◌, [], not, length, position, IfSome, IfNone};
+ghost use Rattle.std.specs.List.{position_or_len};
 ghost use Rattle.uhura_text.specs.Words.{is_blank, words};
 
 use crate::split::is_blank;
@@ -30,33 +30,42 @@ impl<'a> Words<'a> {
     }
 
     /// Lends the next word.
+    #[tactic(auto, using(crate::proofs::WordsLemmas::fronts))]
     pub fn next(&mut self) -> Option<&'a [u8]>
         ensures word { IfSome result (λ word. self.old ≡ word.now ∷ self.new) }
         ensures none { IfNone result (self.old ≡ []) }
         ensures stays { IfNone result (self.new ≡ []) }
     {
-        let line = self.rest;
-        let line = &line[blanks(line)..];
-        let end = word_len(line);
-        self.rest = &line[end..];
-        if end == 0 { None } else { Some(&line[..end]) }
+        let start = word_start(self.rest)?;
+        let (_, line) = self.rest.split_at(start);
+        let (word, rest) = line.split_at(word_len(line));
+        self.rest = rest;
+        Some(word)
     }
 }
 
-// How many blanks a line begins with.
-fn blanks(line: &[u8]) -> usize
-    ensures { result ≡ prefix_len is_blank line.now }
+// Where the next word begins: the place of the first byte that is no blank.
+fn word_start(line: &[u8]) -> Option<usize>
+    ensures { result ≡ position (λ b. not (is_blank b)) line.now }
 {
-    line.iter()
-        .position(|byte| !is_blank(*byte))
-        .unwrap_or(line.len())
+    line.iter().position(|byte| !is_blank(*byte))
+}
+
+// The place of the first blank.
+fn first_blank(line: &[u8]) -> Option<usize>
+    ensures { result ≡ position is_blank line.now }
+{
+    line.iter().position(|byte| is_blank(*byte))
 }
 
 // How long the word is that a line begins with.
+#[tactic(auto, using(crate::proofs::PlaceLemmas::places))]
 fn word_len(line: &[u8]) -> usize
-    ensures { result ≡ position_or_len is_blank line.now }
+    ensures place { result ≡ position_or_len is_blank line.now }
+    ensures within { result ≤ length line.now }
 {
-    line.iter()
-        .position(|byte| is_blank(*byte))
-        .unwrap_or(line.len())
+    match first_blank(line) {
+        Some(place) => place,
+        None => line.len(),
+    }
 }
