@@ -1,9 +1,9 @@
 //! Numbers of at most 30 digits, read and written.
-ghost use Rattle.std.specs.Prelude.{◌≡◌, ◌++◌, ◌^◌, ◌<◌, ◌≤◌, IsTrue, None, Some, length, pos, MatchResult, OnOk, OnErr};
-ghost use Rattle.std.specs.Int.RustNames.{unsigned_abs};
-ghost use Rattle.std.specs.Str.{all_ascii_digits};
+ghost use Rattle.std.specs.Prelude.{◌≡◌, ◌++◌, ◌^◌, ◌<◌, ◌≤◌, IsTrue, None, Some, length, pos, MatchResult, OnOk, OnErr, unsigned_abs};
+ghost use Rattle.std.specs.List.{list_all};
+ghost use Rattle.std.specs.Char.{is_ascii_digit};
 ghost use Rattle.std.specs.Str.Parse.{digits_value};
-ghost use Rattle.uhura_text.specs.Number.{magnitude_of, number_of, spelling};
+ghost use Rattle.uhura_text.specs.Number.{is_magnitude, number_of, spelling};
 
 use itoa::Buffer;
 use std::alloc::AllocError;
@@ -17,16 +17,15 @@ pub struct NotNumber;
 pub fn number(word: &[u8]) -> Result<i128, NotNumber>
     ensures { MatchResult result (λ z. number_of word.now ≡ Some z) (λ _. number_of word.now ≡ None) }
 {
+    if word == b"0".as_slice() {
+        return Ok(0);
+    }
+    if is_magnitude(word) {
+        return Ok(value_of(word) as i128);
+    }
     match word {
-        [b'0'] => Ok(0),
-        [b'-', digits @ ..] => match magnitude(digits) {
-            Ok(value) => Ok(-(value as i128)),
-            Err(refused) => Err(refused),
-        },
-        _ => match magnitude(word) {
-            Ok(value) => Ok(value as i128),
-            Err(refused) => Err(refused),
-        },
+        [b'-', digits @ ..] if is_magnitude(digits) => Ok(-(value_of(digits) as i128)),
+        _ => Err(NotNumber),
     }
 }
 
@@ -40,28 +39,24 @@ pub fn put_number(out: &mut Vec<u8>, value: i128) -> Result<(), AllocError>
     out.extend_from_slice(buffer.format(value).as_bytes())
 }
 
-// The number above 0 that the bytes write, if they do.
-fn magnitude(digits: &[u8]) -> Result<u128, NotNumber>
-    ensures value { MatchResult result (λ n. magnitude_of digits.now ≡ Some n) (λ _. magnitude_of digits.now ≡ None) }
-    ensures small { OnOk result (digits_value 10 digits.now < 10 ^ 30) }
+// Whether these are digits that write a number above 0.
+#[tactic(auto, unfolding(crate::specs::Number::is_magnitude))]
+fn is_magnitude(digits: &[u8]) -> bool
+    ensures { result ≡ is_magnitude digits.now }
 {
-    match digits {
-        [b'1'..=b'9', rest @ ..] if rest.len() <= 29 && are_digits(rest) => Ok(value_of(digits)),
-        _ => Err(NotNumber),
-    }
+    digits.len() <= 30 && matches!(digits, [first, ..] if *first > b'0') && are_digits(digits)
 }
 
 // Whether each byte is a digit.
 fn are_digits(bytes: &[u8]) -> bool
-    ensures { result ≡ all_ascii_digits bytes.now }
+    ensures { result ≡ list_all is_ascii_digit bytes.now }
 {
     bytes.iter().all(|byte| byte.is_ascii_digit())
 }
 
-// The number that at most 30 digits write.
+// The number that the digits write.
 fn value_of(digits: &[u8]) -> u128
-    requires digits { IsTrue (all_ascii_digits digits.now) }
-    requires short { length digits.now ≤ 30 }
+    requires { IsTrue (is_magnitude digits.now) }
     ensures value { result ≡ digits_value 10 digits.now }
     ensures small { result < 10 ^ 30 }
 {
