@@ -5,6 +5,7 @@ use Rattle.uhura_plan.specs.Lists.{Lists}
 use Rattle.uhura_plan.specs.declared.key.EventRef.{EventRef}
 use Rattle.uhura_plan.specs.declared.key.EventRef.TheVariants.{Controllable, End}
 use Rattle.uhura_plan.specs.declared.requirement.Requirement.{Requirement}
+use Rattle.uhura_veto.specs.State.{State}
 use Rattle.uhura_session.specs.declared.schedule.Constraint.{Constraint}
 
 -- a controllable event of the plan
@@ -47,3 +48,7 @@ constraints_of r = lower_constraint r r.lower.bound ++ upper_constraint r r.uppe
 -- the constraints of all requirements, in their order
 abbrev pub all_constraints : List Requirement → List Constraint
 all_constraints rs = flat_map constraints_of rs
+
+-- a plan without vetoes
+abbrev pub free : Lists → State
+free plan = record { plan = plan; vetoes = [] }

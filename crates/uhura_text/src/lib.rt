@@ -1,2 +1,10 @@
 //! Text of scripts: lines out of bytes, words out of a line, numbers both ways.
 #![tactic(auto)]
+
+mod numeral;
+mod split;
+mod word;
+
+pub use numeral::{NotNumber, number, put_number};
+pub use split::{BadByte, is_quiet, words};
+pub use word::Words;
