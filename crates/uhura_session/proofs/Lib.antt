@@ -4,3 +4,6 @@ pub mod Passing
 pub mod Rounds
 pub mod PlainMeets
 pub mod PlainBest
+pub mod Walk
+pub mod PlainBounds
+pub mod PlainText

@@ -25,12 +25,8 @@ use Rattle.uhura_worst.specs.Allowed.{Allowed}
 use Rattle.uhura_worst.specs.Cost.{cost, price_of, loosening_cost, narrowings_cost}
 use Rattle.uhura_worst.specs.Best.{IsCheapest, IsFirst, IsEarliest, IsBest, StartsAtZero, AllowsNothing}
 use Rattle.uhura_session.specs.Schedule as schedule
-use Rattle.uhura_session.specs.Plain.{IsPlain, IsPlainRequirement, all_constraints, free}
+use Rattle.uhura_session.specs.Plain.{IsPlain, IsPlainRequirement, all_constraints, free, unloosened}
 use Rattle.uhura_session.proofs.PlainMeets.{IsMet, met_from_constraints, constraints_from_met, within_from_met, met_from_within}
-
--- the proposal that loosens nothing and has these times
-abbrev pub unloosened : (ℕ → ℤ) → Proposal
-unloosened s = record { branch = []; units = λ key. 0; times = s }
 
 no_units_fit : (k : ℕ) (room : Room) → IsWithinRoom k room 0
 no_units_fit k (Units most) = omega arith

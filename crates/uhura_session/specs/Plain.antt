@@ -6,6 +6,7 @@ use Rattle.uhura_plan.specs.declared.key.EventRef.{EventRef}
 use Rattle.uhura_plan.specs.declared.key.EventRef.TheVariants.{Controllable, End}
 use Rattle.uhura_plan.specs.declared.requirement.Requirement.{Requirement}
 use Rattle.uhura_veto.specs.State.{State}
+use Rattle.uhura_worst.specs.Proposal.{Proposal}
 use Rattle.uhura_session.specs.declared.schedule.Constraint.{Constraint}
 
 -- a controllable event of the plan
@@ -52,3 +53,7 @@ all_constraints rs = flat_map constraints_of rs
 -- a plan without vetoes
 abbrev pub free : Lists → State
 free plan = record { plan = plan; vetoes = [] }
+
+-- the proposal that loosens nothing and has these times
+abbrev pub unloosened : (ℕ → ℤ) → Proposal
+unloosened s = record { branch = []; units = λ key. 0; times = s }

@@ -2,11 +2,8 @@
 #![tactic(auto)]
 
 mod constraints;
-mod edit;
 mod propose;
 mod reading;
 mod schedule;
-mod session;
 
 pub use reading::{Reading, Request};
-pub use session::Session;
