@@ -5,7 +5,8 @@ ghost use Rattle.uhura_text.specs.Words.{first_bad, is_blank, is_graphic, is_qui
 
 use crate::Words;
 
-/// The place, from 0, of the first byte that may not stand in a line. Past the last `u32` it is that.
+/// The place, from 0, of the first byte that may not stand in a line. A place past the last `u32` is
+/// given as that last one.
 #[derive(Clone, Copy, Debug, PartialEq, Eq)]
 pub struct BadByte {
     pub at: u32,
