@@ -65,12 +65,12 @@ time_at-replicate nodes node =
     ]
 
 -- at times of 0
-pub IsAfterRounds-start : (constraints : List Constraint) (nodes : ℕ) (times : List ℤ) → length times ≡ nodes → HasEndsBelow nodes constraints → times ≡ replicate nodes (pos 0) → IsAfterRounds constraints nodes 0 times
-IsAfterRounds-start constraints nodes times same_length ends zeros =
+pub IsAfterRounds-start : (constraints : List Constraint) (nodes : ℕ) (times : List ℤ) → HasEndsBelow nodes constraints → times ≡ replicate nodes (pos 0) → IsAfterRounds constraints nodes 0 times
+IsAfterRounds-start constraints nodes times ends zeros =
     let at : (node : ℕ) → time_at times node ≡ pos 0 = λ node. rw zeros (time_at-replicate nodes node) in
     record {
       within = λ node. (omega (arith, ints, at node), omega (arith, ints, at node));
-      least = λ s nonneg meets node inside. omega (arith, ints, at node, nonneg node (omega arith));
+      least = λ s nonneg meets node inside. omega (arith, ints, at node, nonneg node (omega (arith, ap length zeros, length-replicate nodes (pos 0))));
       tight = λ some. IsTightBeyond-start constraints nodes (whole times) ends some (λ node inside. ap up (at node));
     }
 
