@@ -3,9 +3,11 @@
 
 mod sink;
 mod source;
+mod write;
 
 pub use sink::Sink;
 pub use source::Source;
+pub use write::write_all;
 
 /// A read or a write that failed. The stream's count of faults rose.
 #[derive(Clone, Copy, Debug, PartialEq, Eq)]
