@@ -1,4 +1,4 @@
-use Rattle.std.proofs.Common.{◌≡◌, ℕ, length, arith, ◌<◌}
+use Rattle.std.proofs.Common.{arith}
 use Rattle.uhura_io.proofs.CopiedFront.{Copied, Copied-split, Copied-end}
 use Rattle.uhura_io.proofs.memory_source.MemorySourceSource.read.Goals as goal
 
