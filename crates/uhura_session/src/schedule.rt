@@ -68,3 +68,66 @@ fn relax(constraint: Constraint, times: &mut [i64]) -> bool
         false
     }
 }
+
+#[cfg(test)]
+mod tests {
+    use super::*;
+    use std::process::Abort;
+
+    fn later(from: u32, to: u32, least: i64) -> Constraint {
+        Constraint { from, to, least }
+    }
+
+    fn solved(rt: &impl Abort, constraints: &[Constraint]) -> Option<[i64; 3]> {
+        assert!(rt; constraints.len() <= 4096);
+        assert!(rt; constraints.iter().all(|c| c.from < 3 && c.to < 3));
+        assert!(rt;
+            constraints
+                .iter()
+                .all(|c| -1_000_000_000 <= c.least && c.least <= 1_000_000_000)
+        );
+        let mut times = [7; 3];
+        if earliest(constraints, &mut times) {
+            Some(times)
+        } else {
+            None
+        }
+    }
+
+    #[test]
+    fn finds_the_earliest_times(rt: HostRuntime) {
+        let table: [(&str, &[Constraint], Option<[i64; 3]>); 8] = [
+            ("no constraint", &[], Some([0, 0, 0])),
+            ("five apart", &[later(0, 1, 5)], Some([0, 5, 0])),
+            (
+                "at least five and at most four",
+                &[later(0, 1, 5), later(1, 0, -4)],
+                None,
+            ),
+            (
+                "a chain in order",
+                &[later(0, 1, 2), later(1, 2, 3)],
+                Some([0, 2, 5]),
+            ),
+            (
+                "a chain against the order",
+                &[later(1, 2, 3), later(0, 1, 2)],
+                Some([0, 2, 5]),
+            ),
+            (
+                "a cycle of sum 0",
+                &[later(0, 1, 4), later(1, 2, -1), later(2, 0, -3)],
+                Some([0, 4, 3]),
+            ),
+            (
+                "an upper bound that is kept",
+                &[later(1, 0, -6), later(2, 1, 1)],
+                Some([0, 1, 0]),
+            ),
+            ("later than itself", &[later(2, 2, 1)], None),
+        ];
+        for (name, constraints, want) in table {
+            assert_eq!(rt; solved(&rt, constraints), want, "{name}");
+        }
+    }
+}

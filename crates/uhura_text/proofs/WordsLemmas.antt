@@ -1,6 +1,6 @@
 -- How the words of a line come off its front.
 use Rattle.std.proofs.Common.{◌≡◌, ℕ, ◌+◌, ◌<◌, ◌≤◌, suc, Bool, true, false, cond, not, List, [], ◌∷◌, length, take, drop, get_or, filter, ltb, refl, ap, sym, ◌∙◌, arith, inl, inr, Some, None, position, drop-cons, one-add, length-take, lt-ltb}
-use Rattle.std.specs.List.{position_or_len, slice_split, onto_first, All, before_first, after_first}
+use Rattle.std.specs.List.{position_or_len, slice_split, All}
 use Rattle.std.proofs.lemmas.Bool.{cases_lt}
 use Rattle.std.proofs.lemmas.List.{take_all, drop_all}
 use Rattle.std.proofs.lemmas.List.Quantifiers.{position-Some}

@@ -1,5 +1,5 @@
 //! Numbers of at most 30 digits, read and written.
-ghost use Rattle.std.specs.Prelude.{◌≡◌, ◌++◌, ◌^◌, ◌<◌, ◌≤◌, IsTrue, None, Some, length, pos, MatchResult, OnOk, OnErr, unsigned_abs};
+ghost use Rattle.std.specs.Prelude.{◌≡◌, ◌++◌, ◌^◌, ◌<◌, true, None, Some, MatchResult, IfOk, IfSome, OnOk, OnErr, unsigned_abs};
 ghost use Rattle.std.specs.List.{list_all};
 ghost use Rattle.std.specs.Char.{is_ascii_digit};
 ghost use Rattle.std.specs.Str.Parse.{digits_value};
@@ -13,26 +13,42 @@ use std::alloc::AllocError;
 pub struct NotNumber;
 
 /// Reads a number: `0`, or an optional `-`, a digit from 1 to 9 and at most 29 further digits.
-#[tactic(auto, unfolding(crate::specs::Number::number_of))]
+#[tactic(auto, using(crate::proofs::SpellingLemmas::spellings))]
 pub fn number(word: &[u8]) -> Result<i128, NotNumber>
-    ensures { MatchResult result (λ z. number_of word.now ≡ Some z) (λ _. number_of word.now ≡ None) }
+    ensures value { MatchResult result (λ z. number_of word.now ≡ Some z) (λ _. number_of word.now ≡ None) }
+    ensures one_spelling { IfOk result (λ z. word.now ≡ spelling z) }
+    ensures small { IfOk result (λ z. unsigned_abs z < 10 ^ 30) }
+{
+    match read(word) {
+        Some(value) => Ok(value),
+        None => Err(NotNumber),
+    }
+}
+
+// The number that a word writes, if it writes one.
+#[tactic(auto, unfolding(crate::specs::Number::number_of))]
+fn read(word: &[u8]) -> Option<i128>
+    ensures value { result ≡ number_of word.now }
+    ensures small { IfSome result (λ z. unsigned_abs z < 10 ^ 30) }
 {
     if word == b"0".as_slice() {
-        return Ok(0);
+        return Some(0);
     }
     if is_magnitude(word) {
-        return Ok(value_of(word) as i128);
+        return Some(value_of(word) as i128);
     }
     match word {
-        [b'-', digits @ ..] if is_magnitude(digits) => Ok(-(value_of(digits) as i128)),
-        _ => Err(NotNumber),
+        [b'-', digits @ ..] if is_magnitude(digits) => Some(-(value_of(digits) as i128)),
+        _ => None,
     }
 }
 
 /// Appends the one spelling of a number, which `number` reads back.
+#[tactic(auto, using(crate::proofs::SpellingLemmas::spellings))]
 pub fn put_number(out: &mut Vec<u8>, value: i128) -> Result<(), AllocError>
     requires { unsigned_abs value < 10 ^ 30 }
     ensures ok { OnOk result (out.new.items ≡ out.old.items ++ spelling value) }
+    ensures read_back { number_of (spelling value) ≡ Some value }
     ensures err { OnErr result (out.new.items ≡ out.old.items) }
 {
     let mut buffer = Buffer::new();
@@ -56,7 +72,7 @@ fn are_digits(bytes: &[u8]) -> bool
 
 // The number that the digits write.
 fn value_of(digits: &[u8]) -> u128
-    requires { IsTrue (is_magnitude digits.now) }
+    requires { is_magnitude digits.now ≡ true }
     ensures value { result ≡ digits_value 10 digits.now }
     ensures small { result < 10 ^ 30 }
 {
@@ -65,4 +81,47 @@ fn value_of(digits: &[u8]) -> u128
         value = value * 10 + u128::from(*digit - b'0');
     }
     value
+}
+
+#[cfg(test)]
+mod tests {
+    use super::*;
+    use std::test::Fail;
+
+    #[test]
+    fn reads_and_writes(rt: HostRuntime) -> Result<(), Fail> {
+        for (word, want) in [
+            (b"0".as_slice(), 0),
+            (b"-1", -1),
+            (b"10", 10),
+            (b"-90210", -90210),
+            (
+                b"999999999999999999999999999999",
+                999_999_999_999_999_999_999_999_999_999,
+            ),
+        ] {
+            assert_eq!(rt; number(word), Ok(want), "at {word:?}");
+            let mut out = Vec::from_slice(rt.alloc(), b"at ")?;
+            put_number(&mut out, want)?;
+            assert_eq!(rt; &out[3..], word, "at {want}");
+        }
+        Ok(())
+    }
+
+    #[test]
+    fn refuses_other_words(rt: HostRuntime) {
+        for word in [
+            b"".as_slice(),
+            b"-",
+            b"-0",
+            b"00",
+            b"07",
+            b"+1",
+            b"1a",
+            b"1.0",
+            b"1000000000000000000000000000000",
+        ] {
+            assert_eq!(rt; number(word), Err(NotNumber), "at {word:?}");
+        }
+    }
 }

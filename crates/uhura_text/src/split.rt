@@ -5,7 +5,8 @@ ghost use Rattle.uhura_text.specs.Words.{first_bad, is_blank, is_graphic, is_qui
 
 use crate::Words;
 
-/// The place, from 0, of the first byte that may not stand in a line. Past the last `u32` it is that.
+/// The place, from 0, of the first byte that may not stand in a line. A place past the last `u32` is
+/// given as that last one.
 #[derive(Clone, Copy, Debug, PartialEq, Eq)]
 pub struct BadByte {
     pub at: u32,
@@ -69,4 +70,56 @@ fn is_graphic(byte: u8) -> bool
     ensures { result ≡ is_graphic byte }
 {
     byte >= 0x21 && byte <= 0x7E
+}
+
+#[cfg(test)]
+mod tests {
+    use super::*;
+
+    fn gives(line: &[u8], want: &[&[u8]]) -> bool {
+        let Ok(mut left) = words(line) else {
+            return false;
+        };
+        for word in want {
+            if left.next() != Some(*word) {
+                return false;
+            }
+        }
+        left.next().is_none()
+    }
+
+    #[test]
+    fn splits_lines(rt: HostRuntime) {
+        assert!(rt; gives(b"", &[]));
+        assert!(rt; gives(b" \t ", &[]));
+        assert!(rt; gives(b"propose", &[b"propose"]));
+        assert!(rt; gives(b"\tevent\t  start ", &[b"event", b"start"]));
+        assert!(rt; gives(b"# ~!", &[b"#", b"~!"]));
+    }
+
+    #[test]
+    fn finds_the_first_bad_byte(rt: HostRuntime) {
+        for (line, want) in [
+            (b"\x7F".as_slice(), 0),
+            (b"event \xC3\xA9", 6),
+            (b"a\r", 1),
+            (b"a\x00b\x01", 1),
+        ] {
+            let found = words(line).err();
+            assert_eq!(rt; found, Some(BadByte { at: want }), "in {line:?}");
+        }
+    }
+
+    #[test]
+    fn tells_quiet_lines(rt: HostRuntime) {
+        for (line, want) in [
+            (b"".as_slice(), true),
+            (b" \t", true),
+            (b" # \x01", true),
+            (b"a # b", false),
+            (b"\x01", false),
+        ] {
+            assert_eq!(rt; is_quiet(line), want, "in {line:?}");
+        }
+    }
 }
