@@ -2,6 +2,7 @@
 #![tactic(auto)]
 
 mod constraints;
+mod edit;
 mod propose;
 mod reading;
 mod schedule;

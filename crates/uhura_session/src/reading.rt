@@ -1,5 +1,9 @@
 //! What a line asks for.
+ghost use Rattle.std.specs.Prelude.{◌≡◌, ◌++◌, [], ◌∷◌};
+ghost use Rattle.uhura_session.specs.Reading.{limited, bound_of, requirement_of, request_of, reading};
+
 use uhura_plan::Name;
+use uhura_text::{Words, is_quiet, number, words};
 
 /// What is asked of the session.
 #[derive(Drop)]
@@ -24,4 +28,121 @@ pub enum Reading {
     Quiet,
     Asks(Request),
     Unread,
+}
+
+/// The most bytes of a line, without its newline.
+const LINE_BYTES: usize = 4096;
+
+/// The number, where it is a bound from -1,000,000,000 to 1,000,000,000.
+fn limit(number: i128) -> Option<i64>
+    ensures { result ≡ limited number }
+{
+    if -1_000_000_000 <= number && number <= 1_000_000_000 {
+        Some(number as i64)
+    } else {
+        None
+    }
+}
+
+/// The bound that a word stands for: `-` is none.
+fn bound(word: &[u8]) -> Option<Option<i64>>
+    ensures { result ≡ bound_of word.now }
+{
+    if word == b"-".as_slice() {
+        return Some(None);
+    }
+    match number(word) {
+        Ok(value) => match limit(value) {
+            Some(bound) => Some(Some(bound)),
+            None => None,
+        },
+        Err(_) => None,
+    }
+}
+
+/// The requirement that the words behind `require` stand for.
+fn requirement(
+    name: &[u8],
+    from: &[u8],
+    to: &[u8],
+    low: &[u8],
+    high: &[u8],
+) -> Option<Request>
+    ensures { result ≡ requirement_of name.now from.now to.now low.now high.now }
+{
+    let name = Name::read(name).ok()?;
+    let from = Name::read(from).ok()?;
+    let to = Name::read(to).ok()?;
+    let lower = bound(low)?;
+    let upper = bound(high)?;
+    Some(Request::AddRequirement {
+        name,
+        from,
+        to,
+        lower,
+        upper,
+    })
+}
+
+/// The request of a line of two words.
+fn event(verb: &[u8], name: &[u8]) -> Option<Request>
+    ensures { result ≡ request_of (verb.now ∷ name.now ∷ []) }
+{
+    if verb != b"event".as_slice() {
+        return None;
+    }
+    match Name::read(name) {
+        Ok(name) => Some(Request::AddEvent { name }),
+        Err(_) => None,
+    }
+}
+
+/// The request of a line of one word.
+fn question(verb: &[u8]) -> Option<Request>
+    ensures { result ≡ request_of (verb.now ∷ []) }
+{
+    if verb == b"propose".as_slice() {
+        Some(Request::Propose)
+    } else {
+        None
+    }
+}
+
+/// The request that the words of a line are a form of.
+fn request_in(mut words: Words<'_>) -> Option<Request>
+    ensures { result ≡ request_of words.entry }
+{
+    let verb = words.next()?;
+    let Some(name) = words.next() else {
+        return question(verb);
+    };
+    let Some(from) = words.next() else {
+        return event(verb, name);
+    };
+    let to = words.next()?;
+    let low = words.next()?;
+    let high = words.next()?;
+    if words.next().is_some() || verb != b"require".as_slice() {
+        return None;
+    }
+    requirement(name, from, to, low, high)
+}
+
+/// What a line asks for. Of a line of more than 4,096 bytes the first 4,097 are enough.
+pub fn read(line: &[u8]) -> Reading
+    ensures { result ≡ reading line.now }
+{
+    if line.len() > LINE_BYTES {
+        return Reading::Unread;
+    }
+    if is_quiet(line) {
+        return Reading::Quiet;
+    }
+    match words(line) {
+        Ok(words) => match request_in(words) {
+            Some(request) => Reading::Asks(request),
+            None => Reading::Unread,
+        },
+        Err(_) => Reading::Unread,
+    }
 }
