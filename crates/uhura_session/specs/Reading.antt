@@ -1,9 +1,10 @@
 -- What a line asks for: its words are one of the forms `event N`, `require N FROM TO LO HI` and `propose`, where
 -- LO and HI are numbers or `-`.
-use Rattle.std.specs.Prelude.{ℕ, ℤ, pos, negsuc, ◌&&◌, int_le, nat_lt, if◌then◌else◌, List, [], ◌∷◌, length, None, Some, Option, option_and_then, option_map, bytes_eq, codes}
+use Rattle.std.specs.Prelude.{ℕ, ℤ, pos, negsuc, ◌&&◌, int_le, nat_lt, if◌then◌else◌, List, [], ◌∷◌, length, None, Some, Option, option_and_then, option_map, IfSome, bytes_eq, codes}
 use Rattle.uhura_text.specs.Words.{words, first_bad, is_quiet}
 use Rattle.uhura_text.specs.Number.{number_of}
 use Rattle.uhura_plan.specs.Name.{is_name}
+use Rattle.uhura_plan.specs.Limits.{IsBound}
 use Rattle.uhura_session.specs.declared.reading.Request.{Request}
 use Rattle.uhura_session.specs.declared.reading.Request.TheVariants.{AddEvent, AddRequirement, Propose}
 use Rattle.uhura_session.specs.declared.reading.Reading.{Reading}
@@ -44,3 +45,14 @@ reading_unless_bad None line = reading_of_words (request_of (words line))
 -- a line of more than 4,096 bytes isn't understood whatever it holds, and a quiet one asks for nothing
 abbrev pub reading : List ℕ → Reading
 reading line = if nat_lt 4096 (length line) then Unread else if is_quiet line then Quiet else reading_unless_bad (first_bad line) line
+
+-- the bounds of a request are within their limits
+abbrev pub HasBounds : Request → Type 0
+HasBounds (AddEvent name) = Unit {0}
+HasBounds (AddRequirement name from to lower upper) = IfSome lower IsBound × IfSome upper IsBound
+HasBounds Propose = Unit {0}
+
+abbrev pub AsksWithinBounds : Reading → Type 0
+AsksWithinBounds Quiet = Unit {0}
+AsksWithinBounds Unread = Unit {0}
+AsksWithinBounds (Asks request) = HasBounds request

@@ -1,6 +1,7 @@
 //! What a line asks for.
-ghost use Rattle.std.specs.Prelude.{◌≡◌, ◌++◌, [], ◌∷◌};
-ghost use Rattle.uhura_session.specs.Reading.{limited, bound_of, requirement_of, request_of, reading};
+ghost use Rattle.std.specs.Prelude.{◌≡◌, [], ◌∷◌, IfSome};
+ghost use Rattle.uhura_plan.specs.Limits.{IsBound};
+ghost use Rattle.uhura_session.specs.Reading.{limited, bound_of, requirement_of, request_of, reading, HasBounds, AsksWithinBounds};
 
 use uhura_plan::Name;
 use uhura_text::{Words, is_quiet, number, words};
@@ -35,7 +36,8 @@ const LINE_BYTES: usize = 4096;
 
 /// The number, where it is a bound from -1,000,000,000 to 1,000,000,000.
 fn limit(number: i128) -> Option<i64>
-    ensures { result ≡ limited number }
+    ensures number { result ≡ limited number }
+    ensures within { IfSome result IsBound }
 {
     if -1_000_000_000 <= number && number <= 1_000_000_000 {
         Some(number as i64)
@@ -46,7 +48,8 @@ fn limit(number: i128) -> Option<i64>
 
 /// The bound that a word stands for: `-` is none.
 fn bound(word: &[u8]) -> Option<Option<i64>>
-    ensures { result ≡ bound_of word.now }
+    ensures bound { result ≡ bound_of word.now }
+    ensures within { IfSome result (λ bound. IfSome bound IsBound) }
 {
     if word == b"-".as_slice() {
         return Some(None);
@@ -68,7 +71,8 @@ fn requirement(
     low: &[u8],
     high: &[u8],
 ) -> Option<Request>
-    ensures { result ≡ requirement_of name.now from.now to.now low.now high.now }
+    ensures form { result ≡ requirement_of name.now from.now to.now low.now high.now }
+    ensures within { IfSome result HasBounds }
 {
     let name = Name::read(name).ok()?;
     let from = Name::read(from).ok()?;
@@ -86,7 +90,8 @@ fn requirement(
 
 /// The request of a line of two words.
 fn event(verb: &[u8], name: &[u8]) -> Option<Request>
-    ensures { result ≡ request_of (verb.now ∷ name.now ∷ []) }
+    ensures form { result ≡ request_of (verb.now ∷ name.now ∷ []) }
+    ensures within { IfSome result HasBounds }
 {
     if verb != b"event".as_slice() {
         return None;
@@ -99,7 +104,8 @@ fn event(verb: &[u8], name: &[u8]) -> Option<Request>
 
 /// The request of a line of one word.
 fn question(verb: &[u8]) -> Option<Request>
-    ensures { result ≡ request_of (verb.now ∷ []) }
+    ensures form { result ≡ request_of (verb.now ∷ []) }
+    ensures within { IfSome result HasBounds }
 {
     if verb == b"propose".as_slice() {
         Some(Request::Propose)
@@ -110,7 +116,8 @@ fn question(verb: &[u8]) -> Option<Request>
 
 /// The request that the words of a line are a form of.
 fn request_in(mut words: Words<'_>) -> Option<Request>
-    ensures { result ≡ request_of words.entry }
+    ensures form { result ≡ request_of words.entry }
+    ensures within { IfSome result HasBounds }
 {
     let verb = words.next()?;
     let Some(name) = words.next() else {
@@ -130,7 +137,8 @@ fn request_in(mut words: Words<'_>) -> Option<Request>
 
 /// What a line asks for. Of a line of more than 4,096 bytes the first 4,097 are enough.
 pub fn read(line: &[u8]) -> Reading
-    ensures { result ≡ reading line.now }
+    ensures reading { result ≡ reading line.now }
+    ensures within { AsksWithinBounds result }
 {
     if line.len() > LINE_BYTES {
         return Reading::Unread;
