@@ -13,7 +13,7 @@ abbrev pub IsRelaxed : Constraint → List ℤ → List ℤ → Bool → Type 0
 IsRelaxed c old new true = (time_at old c.to <ℤ asked_of c old) × (new ≡ slice_set old c.to (asked_of c old))
 IsRelaxed c old new false = (asked_of c old ≤ℤ time_at old c.to) × (new ≡ old)
 
--- no time falls, each rises at least to what the old times ask, and a schedule that was nowhere before the times still is not
+-- no time falls, the new times reach what the old ones ask, and times that were nowhere after a schedule still are not
 pub record IsPass (constraints : List Constraint) (old new : List ℤ) : Type 0 where
   pub grows : (node : ℕ) → time_at old node ≤ℤ time_at new node
   pub reaches : All (λ c. asked_of c old ≤ℤ time_at new c.to) constraints

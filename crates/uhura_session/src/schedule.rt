@@ -1,6 +1,6 @@
 //! The earliest schedule of difference constraints, by the method of Bellman and Ford: all times start at 0, and pass
 //! after pass raises each time that a constraint wants later.
-ghost use Rattle.std.specs.Prelude.{ℕ, ◌≡◌, ◌+◌, ◌*◌, ◌^◌, ◌<◌, ◌≤◌, negsuc, pos, ◌≤ℤ◌, length, replicate};
+ghost use Rattle.std.specs.Prelude.{ℕ, ◌≡◌, ◌+◌, ◌*◌, ◌^◌, ◌<◌, ◌≤◌, negsuc, pos, ◌≤ℤ◌, length};
 ghost use Rattle.std.specs.Bool.{MatchBool, OnTrue, OnFalse};
 ghost use Rattle.uhura_session.specs.Schedule.{IsEarliest, HasNoSchedule, HasEndsBelow, HasSmallBounds};
 ghost use Rattle.uhura_session.specs.Passes.{IsRelaxed, IsPass, HasRisen, HasTimesUpTo};
