@@ -1,4 +1,7 @@
 //! A discrete choice among named alternatives.
+ghost use Rattle.std.specs.Prelude.{◌≡◌, map};
+ghost use Rattle.uhura_plan.specs.Find.{place_of};
+
 use crate::{Guard, Name};
 use std::marker::Model;
 
@@ -14,6 +17,36 @@ impl Model for Alternatives {
     ghost Value = { List (List ℕ × ℕ) };
 
     ghost view = { λ a. a.pairs.items };
+}
+
+impl Alternatives {
+    /// The alternatives that a `Vec` lists.
+    pub fn from_vec(pairs: Vec<(Name, u32)>) -> Alternatives
+        ensures { result ≡ pairs.items }
+    {
+        Alternatives { pairs }
+    }
+
+    /// Gives the `Vec` back.
+    pub fn into_vec(self) -> Vec<(Name, u32)>
+        ensures { result.items ≡ self }
+    {
+        self.pairs
+    }
+
+    /// The alternatives as a slice.
+    pub fn as_slice(&self) -> &[(Name, u32)]
+        ensures { result.now ≡ self.now }
+    {
+        self.pairs.as_slice()
+    }
+
+    /// The place of the alternative of this name, of which there are few.
+    pub(crate) fn position(&self, name: Name) -> Option<u32>
+        ensures { result ≡ place_of (map (λ a. a.0) self.now) name }
+    {
+        None
+    }
 }
 
 /// A choice: it is made where its guard holds, and its guard names earlier choices alone.
