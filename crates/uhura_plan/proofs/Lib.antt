@@ -1,1 +1,4 @@
+pub mod Events
+pub mod Guards
 pub mod Names
+pub mod Positions

@@ -1,5 +1,5 @@
 //! A discrete choice among named alternatives.
-ghost use Rattle.std.specs.Prelude.{◌≡◌, map};
+ghost use Rattle.std.specs.Prelude.{◌≡◌, ◌≤◌, length, map, position, bytes_eq};
 ghost use Rattle.uhura_plan.specs.Find.{place_of};
 
 use crate::{Guard, Name};
@@ -40,12 +40,23 @@ impl Alternatives {
     {
         self.pairs.as_slice()
     }
+}
 
-    /// The place of the alternative of this name, of which there are few.
-    pub(crate) fn position(&self, name: Name) -> Option<u32>
-        ensures { result ≡ place_of (map (λ a. a.0) self.now) name }
-    {
-        None
+// The first pair of this name.
+fn pair_named(pairs: &[(Name, u32)], name: Name) -> Option<usize>
+    ensures { result ≡ position (λ a. bytes_eq name a.0) pairs.now }
+{
+    pairs.iter().position(|pair| name == pair.0)
+}
+
+/// The place of the alternative of this name.
+pub(crate) fn alternative_place(alternatives: &[(Name, u32)], name: Name) -> Option<u32>
+    requires { length alternatives.now ≤ 16 }
+    ensures { result ≡ place_of (map (λ a. a.0) alternatives.now) name }
+{
+    match pair_named(alternatives, name) {
+        Some(place) => Some(place as u32),
+        None => None,
     }
 }
 

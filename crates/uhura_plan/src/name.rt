@@ -64,6 +64,7 @@ impl Name {
     }
 
     /// The bytes of the name.
+    #[tactic(auto, using(crate::proofs::Names::least_name, crate::proofs::Names::most_name))]
     pub fn bytes(&self) -> &[u8]
         ensures bytes { result.now ≡ self.now }
         ensures name { IsTrue (is_name self.now) }

@@ -6,6 +6,7 @@ ghost use Rattle.uhura_plan.specs.Limits.{AreWithinLimits};
 ghost use Rattle.uhura_plan.specs.Sound.{IsSound};
 ghost use Rattle.uhura_plan.specs.Edits.{Answers, event_refusal, with_event, requirement_refusal, AddsRequirement};
 
+use crate::choice::alternative_place;
 use crate::{Bounded, Choice, EditRefusal, EventRef, Name, Requirement, Uncertain};
 use indexmap::{IndexMap, IndexSet};
 use std::alloc::{AllocError, Global};
@@ -65,6 +66,7 @@ impl Plan {
         if has >= EVENTS {
             return Err(EditRefusal::Full { limit: EVENTS, has });
         }
+        let _ = name.bytes();
         self.events.insert(name)?;
         Ok(())
     }
@@ -154,7 +156,8 @@ impl Plan {
 
     /// The choice at this place.
     pub fn choice(&self, index: u32) -> Option<&Choice>
-        ensures { option_copied result ≡ slice_get self.now.choices index }
+        ensures choice { option_copied result ≡ slice_get self.now.choices index }
+        ensures sound { IsSound self.now }
     {
         self.choices.values().as_slice().get(index as usize)
     }
@@ -170,8 +173,10 @@ impl Plan {
     pub fn find_alternative(&self, choice: u32, name: Name) -> Option<u32>
         ensures { result ≡ alternative_named self.now choice name }
     {
-        let found = self.choice(choice)?;
-        found.alternatives.position(name)
+        match self.choice(choice) {
+            Some(found) => alternative_place(found.alternatives.as_slice(), name),
+            None => None,
+        }
     }
 
     /// The number of requirements.
