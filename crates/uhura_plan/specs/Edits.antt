@@ -81,14 +81,22 @@ pub record IsLeastFree (requirements : List Requirement) (slot : ℕ) : Type 0 w
   pub free : Contains (slots requirements) slot → ⊥
   pub least : (lower : ℕ) → lower < slot → Contains (slots requirements) lower
 
--- the new plan has, behind the old requirements, the one of this call, in the least free slot
+-- what a call states, with the events and literals of its names, in the least free slot
+pub record IsRequirementOf (plan : Lists) (name from to : List ℕ) (lower upper : Bounded) (guard : List (List ℕ × List ℕ)) (made : Requirement) : Type 0 where
+  pub same_name : made.name ≡ name
+  pub found_from : Some made.from ≡ find_event plan from
+  pub found_to : Some made.to ≡ find_event plan to
+  pub same_lower : made.lower ≡ lower
+  pub same_upper : made.upper ≡ upper
+  pub found_guard : map (λ literal. Some literal) made.guard ≡ map (literal_named plan) guard
+  pub least_slot : IsLeastFree plan.requirements made.slot
+
+-- the plan with this requirement behind its others
+abbrev pub with_requirement : Lists → Requirement → Lists
+with_requirement plan made = record plan { requirements = plan.requirements ++ made ∷ [] }
+
+-- the new plan is the old one with the requirement that the call states
 pub record AddsRequirement (old new : Lists) (name from to : List ℕ) (lower upper : Bounded) (guard : List (List ℕ × List ℕ)) : Type 0 where
-  pub added : Requirement
-  pub same_name : added.name ≡ name
-  pub found_from : Some added.from ≡ find_event old from
-  pub found_to : Some added.to ≡ find_event old to
-  pub same_lower : added.lower ≡ lower
-  pub same_upper : added.upper ≡ upper
-  pub found_guard : map (λ literal. Some literal) added.guard ≡ map (literal_named old) guard
-  pub least_slot : IsLeastFree old.requirements added.slot
-  pub lists : new ≡ record old { requirements = old.requirements ++ added ∷ [] }
+  pub made : Requirement
+  pub stated : IsRequirementOf old name from to lower upper guard made
+  pub lists : new ≡ with_requirement old made

@@ -1,13 +1,15 @@
 //! A plan and its edits.
-ghost use Rattle.std.specs.Prelude.{◌≡◌, length, slice_get, IfOk, OnOk, OnErr, option_copied};
+ghost use Rattle.std.specs.Prelude.{◌≡◌, IfOk, OnOk, OnErr};
 ghost use Rattle.uhura_plan.specs.Lists.{empty};
-ghost use Rattle.uhura_plan.specs.Find.{find_event, uncertain_named, choice_named, alternative_named, requirement_named, requirement_in};
 ghost use Rattle.uhura_plan.specs.Limits.{AreWithinLimits};
-ghost use Rattle.uhura_plan.specs.Sound.{IsSound};
 ghost use Rattle.uhura_plan.specs.Edits.{Answers, event_refusal, with_event, requirement_refusal, AddsRequirement};
 
-use crate::choice::alternative_place;
-use crate::{Bounded, Choice, EditRefusal, EventRef, Name, Requirement, Uncertain};
+mod look_up;
+mod made;
+mod refuse;
+mod slot;
+
+use crate::{Bounded, Choice, EditRefusal, Name, Requirement, Uncertain};
 use indexmap::{IndexMap, IndexSet};
 use std::alloc::{AllocError, Global};
 use std::marker::Model;
@@ -88,129 +90,11 @@ impl Plan {
         ensures ok { OnOk result (AddsRequirement self.old self.new name from to lower upper guard.now) }
         ensures err { OnErr result (self.new ≡ self.old) }
     {
-        if self.find_requirement(name).is_some() {
-            return Err(EditRefusal::Taken);
+        if let Some(refusal) = self.requirement_refusal(name, from, to, lower, upper, guard) {
+            return Err(refusal);
         }
+        let made = self.requirement_of(name, from, to, lower, upper, guard);
+        self.requirements.insert(name, made)?;
         Ok(())
-    }
-
-    /// The number of controllable events.
-    pub fn events(&self) -> u32
-        ensures count { result ≡ length self.now.events }
-        ensures sound { IsSound self.now }
-    {
-        self.events.len() as u32
-    }
-
-    /// The name of the controllable event at this place.
-    pub fn event(&self, index: u32) -> Option<Name>
-        ensures { result ≡ slice_get self.now.events index }
-    {
-        self.events.get_index(index as usize).copied()
-    }
-
-    /// The event of this name: a controllable one, or the end of a duration.
-    pub fn find_event(&self, name: Name) -> Option<EventRef>
-        ensures { result ≡ find_event self.now name }
-    {
-        match self.events.get_index_of(&name) {
-            Some(index) => Some(EventRef::Controllable(index as u32)),
-            None => self
-                .ends
-                .get_index_of(&name)
-                .map(|index| EventRef::End(index as u32)),
-        }
-    }
-
-    /// The number of durations.
-    pub fn uncertains(&self) -> u32
-        ensures count { result ≡ length self.now.uncertains }
-        ensures sound { IsSound self.now }
-    {
-        self.uncertains.len() as u32
-    }
-
-    /// The duration at this place.
-    pub fn uncertain(&self, index: u32) -> Option<&Uncertain>
-        ensures { option_copied result ≡ slice_get self.now.uncertains index }
-    {
-        self.uncertains.values().as_slice().get(index as usize)
-    }
-
-    /// The place of the duration of this name.
-    pub fn find_uncertain(&self, name: Name) -> Option<u32>
-        ensures { result ≡ uncertain_named self.now name }
-    {
-        self.uncertains
-            .get_index_of(&name)
-            .map(|index| index as u32)
-    }
-
-    /// The number of choices.
-    pub fn choices(&self) -> u32
-        ensures count { result ≡ length self.now.choices }
-        ensures sound { IsSound self.now }
-    {
-        self.choices.len() as u32
-    }
-
-    /// The choice at this place.
-    pub fn choice(&self, index: u32) -> Option<&Choice>
-        ensures choice { option_copied result ≡ slice_get self.now.choices index }
-        ensures sound { IsSound self.now }
-    {
-        self.choices.values().as_slice().get(index as usize)
-    }
-
-    /// The place of the choice of this name.
-    pub fn find_choice(&self, name: Name) -> Option<u32>
-        ensures { result ≡ choice_named self.now name }
-    {
-        self.choices.get_index_of(&name).map(|index| index as u32)
-    }
-
-    /// The place of the alternative of this name in the choice at this place.
-    pub fn find_alternative(&self, choice: u32, name: Name) -> Option<u32>
-        ensures { result ≡ alternative_named self.now choice name }
-    {
-        match self.choice(choice) {
-            Some(found) => alternative_place(found.alternatives.as_slice(), name),
-            None => None,
-        }
-    }
-
-    /// The number of requirements.
-    pub fn requirements(&self) -> u32
-        ensures count { result ≡ length self.now.requirements }
-        ensures sound { IsSound self.now }
-    {
-        self.requirements.len() as u32
-    }
-
-    /// The requirement at this place.
-    pub fn requirement(&self, position: u32) -> Option<&Requirement>
-        ensures { option_copied result ≡ slice_get self.now.requirements position }
-    {
-        self.requirements.values().as_slice().get(position as usize)
-    }
-
-    /// The requirement in this slot.
-    pub fn requirement_in(&self, slot: u32) -> Option<&Requirement>
-        ensures { option_copied result ≡ requirement_in self.now slot }
-    {
-        self.requirements
-            .values()
-            .as_slice()
-            .iter()
-            .find(|r| r.slot == slot)
-    }
-
-    /// The place of the requirement of this name.
-    pub fn find_requirement(&self, name: Name) -> Option<u32>
-        ensures { result ≡ requirement_named self.now name }
-    {
-        self.requirements
-            .get_index_of(&name)
-            .map(|index| index as u32)
     }
 }
