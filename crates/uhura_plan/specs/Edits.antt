@@ -41,9 +41,13 @@ event_refusal plan name = first_of (
 abbrev pub with_event : Lists → List ℕ → Lists
 with_event plan name = record plan { events = plan.events ++ name ∷ [] }
 
--- for each name of a guard's literals, in order, whether the plan has the choice or the alternative
+-- whether the plan has the choice of a literal, and whether that has the alternative
+abbrev pub known_pair : Lists → List ℕ × List ℕ → List Bool
+known_pair plan names = is_some (choice_named plan names.0) ∷ is_some (literal_named plan names) ∷ []
+
+-- for each name of a guard's literals, in order, whether it is known
 abbrev pub known_names : Lists → List (List ℕ × List ℕ) → List Bool
-known_names plan guard = flat_map (λ names. is_some (choice_named plan names.0) ∷ is_some (literal_named plan names) ∷ []) guard
+known_names plan guard = flat_map (known_pair plan) guard
 
 -- the first refusal of a guard for a name that isn't there, whose names follow so many others
 abbrev pub unknown_in : Lists → ℕ → List (List ℕ × List ℕ) → Option EditRefusal

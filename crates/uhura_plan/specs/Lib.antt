@@ -5,5 +5,6 @@ pub mod Limits
 pub mod Lists
 pub mod Name
 pub mod Padded
+pub mod Slots
 pub mod Sound
 pub mod Tables
