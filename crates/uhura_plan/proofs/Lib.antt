@@ -4,3 +4,4 @@ pub mod Literals
 pub mod Names
 pub mod Positions
 pub mod Repeats
+pub mod Slots
