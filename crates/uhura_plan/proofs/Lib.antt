@@ -1,7 +1,10 @@
+pub mod Building
 pub mod Events
+pub mod Finds
 pub mod Guards
 pub mod Literals
 pub mod Names
 pub mod Positions
+pub mod Refusals
 pub mod Repeats
 pub mod Slots

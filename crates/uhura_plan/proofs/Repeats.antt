@@ -13,11 +13,11 @@ abbrev pub repeats : List (List ℕ) → ℕ → Bool
 repeats names i = list_any (bytes_eq (get_or names i [])) (take i names)
 
 -- the test that `repeated_at` makes of a place and its name
-abbrev is_repeat : List (List ℕ) → ℕ × List ℕ → Bool
+abbrev pub is_repeat : List (List ℕ) → ℕ × List ℕ → Bool
 is_repeat names p = list_any (bytes_eq p.1) (take p.0 names)
 
 -- that test at a place
-is_repeat-at : (names : List (List ℕ)) (i : ℕ) → i < length names → is_repeat names (get_or (enumerate_from 0 names) i (0, [])) ≡ repeats names i
+pub is_repeat-at : (names : List (List ℕ)) (i : ℕ) → i < length names → is_repeat names (get_or (enumerate_from 0 names) i (0, [])) ≡ repeats names i
 is_repeat-at names i within = ap (is_repeat names) (get_or-enumerate_from 0 names i (0, []) within ∙ ap (λ n. (n, get_or names i [])) (zero-add i))
 
 -- the first place that repeats, or the end, is where the search stops

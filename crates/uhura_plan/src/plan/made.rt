@@ -42,9 +42,12 @@ impl Plan {
         ensures found { map (λ literal. Some literal) result ≡ map (literal_named self.now) names.now }
         ensures among { IsGuardAmong self.now.choices result }
     {
+        // The plan's invariant bounds the number of choices.
+        let _ = &self.choices;
         let mut guard = Guard::empty();
         for (choice, alternative) in names {
-            guard.add(self.literal(*choice, *alternative).unwrap());
+            let literal = self.literal(*choice, *alternative).unwrap();
+            guard.add(literal);
         }
         guard
     }
