@@ -7,4 +7,5 @@ pub mod Names
 pub mod Positions
 pub mod Refusals
 pub mod Repeats
+pub mod Requirements
 pub mod Slots

@@ -94,6 +94,7 @@ impl Plan {
             return Err(refusal);
         }
         let made = self.requirement_of(name, from, to, lower, upper, guard);
+        let _ = name.bytes();
         self.requirements.insert(name, made)?;
         Ok(())
     }
