@@ -1,1 +1,10 @@
+pub mod Edits
+pub mod Find
+pub mod Guard
+pub mod Limits
 pub mod Lists
+pub mod Name
+pub mod Padded
+pub mod Slots
+pub mod Sound
+pub mod Tables

@@ -1,4 +1,7 @@
 //! A discrete choice among named alternatives.
+ghost use Rattle.std.specs.Prelude.{◌≡◌, ◌≤◌, length, map, position, bytes_eq};
+ghost use Rattle.uhura_plan.specs.Find.{place_of};
+
 use crate::{Guard, Name};
 use std::marker::Model;
 
@@ -14,6 +17,47 @@ impl Model for Alternatives {
     ghost Value = { List (List ℕ × ℕ) };
 
     ghost view = { λ a. a.pairs.items };
+}
+
+impl Alternatives {
+    /// The alternatives that a `Vec` lists.
+    pub fn from_vec(pairs: Vec<(Name, u32)>) -> Alternatives
+        ensures { result ≡ pairs.items }
+    {
+        Alternatives { pairs }
+    }
+
+    /// Gives the `Vec` back.
+    pub fn into_vec(self) -> Vec<(Name, u32)>
+        ensures { result.items ≡ self }
+    {
+        self.pairs
+    }
+
+    /// The alternatives as a slice.
+    pub fn as_slice(&self) -> &[(Name, u32)]
+        ensures { result.now ≡ self.now }
+    {
+        self.pairs.as_slice()
+    }
+}
+
+// The first pair of this name.
+fn pair_named(pairs: &[(Name, u32)], name: Name) -> Option<usize>
+    ensures { result ≡ position (λ a. bytes_eq name a.0) pairs.now }
+{
+    pairs.iter().position(|pair| name == pair.0)
+}
+
+/// The place of the alternative of this name.
+pub(crate) fn alternative_place(alternatives: &[(Name, u32)], name: Name) -> Option<u32>
+    requires { length alternatives.now ≤ 16 }
+    ensures { result ≡ place_of (map (λ a. a.0) alternatives.now) name }
+{
+    match pair_named(alternatives, name) {
+        Some(place) => Some(place as u32),
+        None => None,
+    }
 }
 
 /// A choice: it is made where its guard holds, and its guard names earlier choices alone.

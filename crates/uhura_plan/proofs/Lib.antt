@@ -1,0 +1,11 @@
+pub mod Building
+pub mod Events
+pub mod Finds
+pub mod Guards
+pub mod Literals
+pub mod Names
+pub mod Positions
+pub mod Refusals
+pub mod Repeats
+pub mod Requirements
+pub mod Slots

@@ -1,0 +1,75 @@
+-- What holds where a requirement isn't refused.
+use Rattle.std.proofs.Common.{◌≡◌, ℕ, ◌+◌, ◌<◌, ◌≤ℤ◌, ℤ, Bool, true, false, not, ◌||◌, List, [], ◌∷◌, length, map, get_or, zero, suc, take, Option, None, Some, is_some, is_none, position, option_map, int_lt, nat_le, bytes_eq, refl, sym, ap, ◌∙◌, true≢false, arith}
+use Rattle.std.specs.List.{list_any, enumerate_from}
+use Rattle.std.proofs.lemmas.Bool.Decides.{nat_tests}
+use Rattle.std.proofs.lemmas.Int.{ints}
+use Rattle.uhura_plan.specs.declared.requirement.Bounded.{Bounded}
+use Rattle.uhura_plan.specs.declared.refusal.EditRefusal.{EditRefusal}
+use Rattle.uhura_plan.specs.declared.refusal.EditRefusal.TheVariants.{Taken, Unknown, Kind, Empty, Full}
+use Rattle.uhura_plan.specs.Lists.{Lists}
+use Rattle.uhura_plan.specs.Find.{find_event, requirement_named, literal_named}
+use Rattle.uhura_plan.specs.Limits.{AreOrdered}
+use Rattle.uhura_plan.specs.Edits.{refuse_if, first_of, known_names, unknown_in, repeated_at, repeated_in, empty_between, requirement_refusal}
+use Rattle.uhura_plan.proofs.Positions.{none_passes}
+use Rattle.uhura_plan.proofs.Literals.{or_false}
+
+-- each test of a requirement's refusals fails
+pub record Passes (taken no_from no_to : Bool) (unknown : Option EditRefusal) (one_event : Bool) (empty repeated : Option EditRefusal) (full : Bool) : Type 0 where
+  pub not_taken : taken ≡ false
+  pub from_there : no_from ≡ false
+  pub to_there : no_to ≡ false
+  pub all_known : unknown ≡ None
+  pub two_events : one_event ≡ false
+  pub not_empty : empty ≡ None
+  pub once : repeated ≡ None
+  pub room : full ≡ false
+
+passes : (taken no_from no_to : Bool) (unknown : Option EditRefusal) (one_event : Bool) (empty repeated : Option EditRefusal) (full : Bool) (a b c d e : EditRefusal)
+    → first_of (refuse_if taken a ∷ refuse_if no_from b ∷ refuse_if no_to c ∷ unknown ∷ refuse_if one_event d ∷ empty ∷ repeated ∷ refuse_if full e ∷ []) ≡ None
+    → Passes taken no_from no_to unknown one_event empty repeated full
+passes false false false None false None None false a b c d e none = record { not_taken = refl; from_there = refl; to_there = refl; all_known = refl; two_events = refl; not_empty = refl; once = refl; room = refl }
+passes true no_from no_to unknown one_event empty repeated full a b c d e none = let no : ⊥ = cc in absurd no
+passes false true no_to unknown one_event empty repeated full a b c d e none = let no : ⊥ = cc in absurd no
+passes false false true unknown one_event empty repeated full a b c d e none = let no : ⊥ = cc in absurd no
+passes false false false (Some r) one_event empty repeated full a b c d e none = let no : ⊥ = cc in absurd no
+passes false false false None true empty repeated full a b c d e none = let no : ⊥ = cc in absurd no
+passes false false false None false (Some r) repeated full a b c d e none = let no : ⊥ = cc in absurd no
+passes false false false None false None (Some r) full a b c d e none = let no : ⊥ = cc in absurd no
+passes false false false None false None None true a b c d e none = let no : ⊥ = cc in absurd no
+
+-- each test of a requirement that isn't refused fails
+pub unrefused : (plan : Lists) (name from to : List ℕ) (lower upper : Bounded) (guard : List (List ℕ × List ℕ)) → requirement_refusal plan name from to lower upper guard ≡ None
+    → Passes (is_some (requirement_named plan name)) (is_none (find_event plan from)) (is_none (find_event plan to)) (unknown_in plan 3 guard) (bytes_eq from to) (empty_between lower.bound upper.bound) (repeated_in guard) (nat_le 2048 (length plan.requirements))
+unrefused plan name from to lower upper guard none =
+    passes (is_some (requirement_named plan name)) (is_none (find_event plan from)) (is_none (find_event plan to)) (unknown_in plan 3 guard) (bytes_eq from to) (empty_between lower.bound upper.bound) (repeated_in guard) (nat_le 2048 (length plan.requirements))
+      Taken (Unknown 1) (Unknown 2) Kind (Full 2048 (length plan.requirements)) none
+
+-- bounds that aren't refused are in order
+pub bounds_ordered : (lower upper : Option ℤ) → empty_between lower upper ≡ None → AreOrdered lower upper
+bounds_ordered (Some lower) (Some upper) none = by (int_lt upper lower) refl none
+  where
+    by : (b : Bool) → int_lt upper lower ≡ b → refuse_if b (Empty lower upper) ≡ None → lower ≤ℤ upper
+    by true less refused = let no : ⊥ = cc in absurd no
+    by false other refused = grind (arith, ints, nat_tests)
+bounds_ordered (Some lower) None none = tt
+bounds_ordered None (Some upper) none = tt
+bounds_ordered None None none = tt
+
+-- no value comes from none
+pub mapped_none : {X Y : Type 0} (f : X → Y) (o : Option X) → option_map f o ≡ None → o ≡ None
+mapped_none f None none = refl
+mapped_none f (Some x) none = let no : ⊥ = cc in absurd no
+
+not_true : (b : Bool) → not b ≡ false → b ≡ true
+not_true true h = refl
+not_true false h = sym h
+
+-- where no name is unknown, each literal is spelled
+known_literal : (plan : Lists) (guard : List (List ℕ × List ℕ)) (i : ℕ) (d : List ℕ × List ℕ) → list_any not (known_names plan guard) ≡ false → i < length guard → is_some (literal_named plan (get_or guard i d)) ≡ true
+known_literal plan [] i d known within = absurd (omega (arith, within))
+known_literal plan (names ∷ guard) zero d known within = not_true _ (or_false _ _ (or_false _ _ known).1).0
+known_literal plan (names ∷ guard) (suc i) d known within = known_literal plan guard i d (or_false _ _ (or_false _ _ known).1).1 (omega (arith, within))
+
+pub literal_known : (plan : Lists) (before : ℕ) (guard : List (List ℕ × List ℕ)) (i : ℕ) (d : List ℕ × List ℕ) → unknown_in plan before guard ≡ None → i < length guard → is_some (literal_named plan (get_or guard i d)) ≡ true
+literal_known plan before guard i d none within =
+    known_literal plan guard i d (none_passes not (known_names plan guard) (ap is_some (mapped_none _ (position not (known_names plan guard)) none))) within

@@ -1,0 +1,66 @@
+//! The requirement that a call states.
+ghost use Rattle.std.specs.Prelude.{◌≡◌, ◌<◌, None, Some, map};
+ghost use Rattle.uhura_plan.specs.Find.{literal_named};
+ghost use Rattle.uhura_plan.specs.Sound.{IsGuardAmong};
+ghost use Rattle.uhura_plan.specs.Edits.{IsRequirementOf, requirement_refusal, unknown_in, repeated_in};
+
+use super::Plan;
+use super::slot::least_free_slot;
+use crate::{Bounded, Guard, Literal, Name, Requirement};
+
+impl Plan {
+    /// The requirement that a call states which isn't refused.
+    pub(super) fn requirement_of(
+        &self,
+        name: Name,
+        from: Name,
+        to: Name,
+        lower: Bounded,
+        upper: Bounded,
+        guard: &[(Name, Name)],
+    ) -> Requirement
+        requires { requirement_refusal self.now name from to lower upper guard.now ≡ None }
+        ensures stated { IsRequirementOf self.now name from to lower upper guard.now result }
+        ensures guard { IsGuardAmong self.now.choices result.guard }
+        ensures slot { result.slot < 2048 }
+    {
+        Requirement {
+            name,
+            slot: least_free_slot(self.requirements.values().as_slice()),
+            from: self.find_event(from).unwrap(),
+            to: self.find_event(to).unwrap(),
+            lower,
+            upper,
+            guard: self.guard_of(guard),
+        }
+    }
+
+    /// The guard of literals that are there, no two of them on one choice.
+    fn guard_of(&self, names: &[(Name, Name)]) -> Guard
+        requires known { unknown_in self.now 3 names.now ≡ None }
+        requires once { repeated_in names.now ≡ None }
+        ensures found { map (λ literal. Some literal) result ≡ map (literal_named self.now) names.now }
+        ensures among { IsGuardAmong self.now.choices result }
+    {
+        // The plan's invariant bounds the number of choices.
+        let _ = &self.choices;
+        let mut guard = Guard::empty();
+        for (choice, alternative) in names {
+            let literal = self.literal(*choice, *alternative).unwrap();
+            guard.add(literal);
+        }
+        guard
+    }
+
+    /// The literal of a choice and one of its alternatives.
+    fn literal(&self, choice: Name, alternative: Name) -> Option<Literal>
+        ensures { result ≡ literal_named self.now (choice, alternative) }
+    {
+        let choice = self.find_choice(choice)?;
+        let alternative = self.find_alternative(choice, alternative)?;
+        Some(Literal {
+            choice,
+            alternative,
+        })
+    }
+}

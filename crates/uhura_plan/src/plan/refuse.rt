@@ -1,0 +1,107 @@
+//! Whether an edit is refused, and why.
+ghost use Rattle.std.specs.Prelude.{◌≡◌, bytes_eq};
+ghost use Rattle.std.specs.List.{list_any};
+ghost use Rattle.uhura_plan.specs.Edits.{carried, unknown_in, empty_between, repeated_in, requirement_refusal};
+
+use super::{Plan, REQUIREMENTS};
+use crate::{Bounded, EditRefusal, Name};
+
+impl Plan {
+    /// The first refusal of a requirement, where there is one.
+    pub(super) fn requirement_refusal(
+        &self,
+        name: Name,
+        from: Name,
+        to: Name,
+        lower: Bounded,
+        upper: Bounded,
+        guard: &[(Name, Name)],
+    ) -> Option<EditRefusal>
+        ensures { result ≡ requirement_refusal self.now name from to lower upper guard.now }
+    {
+        if self.find_requirement(name).is_some() {
+            return Some(EditRefusal::Taken);
+        }
+        if self.find_event(from).is_none() {
+            return Some(EditRefusal::Unknown { which: 1 });
+        }
+        if self.find_event(to).is_none() {
+            return Some(EditRefusal::Unknown { which: 2 });
+        }
+        if let Some(refusal) = self.unknown_in(3, guard) {
+            return Some(refusal);
+        }
+        if from == to {
+            return Some(EditRefusal::Kind);
+        }
+        if let Some(refusal) = empty_between(lower.bound, upper.bound) {
+            return Some(refusal);
+        }
+        if let Some(refusal) = repeated_in(guard) {
+            return Some(refusal);
+        }
+        let has = self.requirements();
+        if has >= REQUIREMENTS {
+            return Some(EditRefusal::Full {
+                limit: REQUIREMENTS,
+                has,
+            });
+        }
+        None
+    }
+
+    /// The refusal of a guard for a name that isn't there; so many names of the call stand before it.
+    fn unknown_in(&self, before: u32, guard: &[(Name, Name)]) -> Option<EditRefusal>
+        ensures { result ≡ unknown_in self.now before guard.now }
+    {
+        let mut which = before;
+        for (choice, alternative) in guard {
+            let Some(place) = self.find_choice(*choice) else {
+                return Some(EditRefusal::Unknown { which });
+            };
+            if self.find_alternative(place, *alternative).is_none() {
+                return Some(EditRefusal::Unknown {
+                    which: which.saturating_add(1),
+                });
+            }
+            which = which.saturating_add(2);
+        }
+        None
+    }
+}
+
+/// The refusal of a lower bound above the upper bound.
+fn empty_between(lower: Option<i64>, upper: Option<i64>) -> Option<EditRefusal>
+    ensures { result ≡ empty_between lower upper }
+{
+    match (lower, upper) {
+        (Some(lower), Some(upper)) if upper < lower => Some(EditRefusal::Empty { lower, upper }),
+        _ => None,
+    }
+}
+
+/// The refusal of the first literal that names a choice already named.
+fn repeated_in(guard: &[(Name, Name)]) -> Option<EditRefusal>
+    ensures { result ≡ repeated_in guard.now }
+{
+    for (at, (choice, _)) in guard.iter().enumerate() {
+        if names_choice(&guard[..at], *choice) {
+            return Some(EditRefusal::Guard { at: carried(at) });
+        }
+    }
+    None
+}
+
+/// Whether one of these literals names the choice.
+fn names_choice(literals: &[(Name, Name)], choice: Name) -> bool
+    ensures { result ≡ list_any (λ names. bytes_eq choice names.0) literals.now }
+{
+    literals.iter().any(|names| choice == names.0)
+}
+
+/// A place as a `u32` carries it.
+fn carried(place: usize) -> u32
+    ensures { result ≡ carried place }
+{
+    u32::try_from(place).unwrap_or(u32::MAX)
+}
