@@ -1,7 +1,7 @@
 pub mod Reading
 pub mod ProposalText
 pub mod Answers
-pub mod Dialogue
+pub mod Session
 pub mod Plain
 pub mod Schedule
 pub mod Passes

@@ -6,5 +6,6 @@ mod edit;
 mod propose;
 mod reading;
 mod schedule;
+mod session;
 
-pub use reading::{Reading, Request};
+pub use session::Session;
