@@ -7,3 +7,4 @@ pub mod PlainBest
 pub mod Walk
 pub mod PlainBounds
 pub mod PlainText
+pub mod PlainEdits

@@ -4,6 +4,7 @@ use Rattle.uhura_plan.specs.Lists.{empty}
 use Rattle.uhura_plan.specs.Edits.{event_refusal, with_event, requirement_refusal, AddsRequirement}
 use Rattle.uhura_plan.specs.declared.requirement.Bounded.{Bounded}
 use Rattle.uhura_plan.specs.declared.refusal.EditRefusal.{EditRefusal}
+use Rattle.uhura_plan.specs.declared.refusal.EditRefusal.TheVariants.{Memory}
 use Rattle.uhura_veto.specs.State.{State}
 use Rattle.uhura_worst.specs.Proposal.{Proposal}
 use Rattle.uhura_worst.specs.Best.{IsBest, AllowsNothing}
@@ -34,6 +35,11 @@ nothing_text = line_of (codes "none" ∷ [])
 abbrev pub unpriced : Option ℤ → Bounded
 unpriced bound = record { bound = bound; price = None }
 
+-- an edit is refused for good, and not for want of memory
+abbrev pub IsForGood : EditRefusal → Type 0
+IsForGood (Memory error) = ⊥
+IsForGood refusal = Unit {0}
+
 -- a line is refused: the state stays
 pub record Refuses (state : State) (text : List ℕ) (refused : Bool) (next : State) : Type 0 where
   pub refusal : text ≡ unbuilt_text
@@ -56,7 +62,8 @@ abbrev pub AnswersEdit : Option EditRefusal → Type 0 → State → List ℕ �
 AnswersEdit None Edited state text refused next = Grants accepted_text Edited text refused
 AnswersEdit (Some refusal) Edited state text refused next = Refuses state text refused next
 
-abbrev pub AnswersRequest : Request → State → List ℕ → Bool → State → Type 0
+-- what is answered to a request
+unfoldable pub AnswersRequest : Request → State → List ℕ → Bool → State → Type 0
 AnswersRequest (AddEvent name) state text refused next =
   AnswersEdit (event_refusal state.plan name) (next ≡ record state { plan = with_event state.plan name }) state text refused next
 AnswersRequest (AddRequirement name from to lower upper) state text refused next =

@@ -1,7 +1,7 @@
 //! Edits of the plan, and their answers.
 ghost use Rattle.std.specs.Prelude.{◌≡◌, [], true, IfOk, IfSome, OnErr};
 ghost use Rattle.uhura_plan.specs.Limits.{IsBound, AreWithinLimits};
-ghost use Rattle.uhura_session.specs.Answers.{AnswersRequest, unbuilt_text, unpriced};
+ghost use Rattle.uhura_session.specs.Answers.{AnswersRequest, IsForGood, unbuilt_text, unpriced};
 ghost use Rattle.uhura_session.specs.Plain.{IsPlain, free};
 ghost use Rattle.uhura_session.specs.declared.reading.Request.TheVariants as asks;
 
@@ -17,7 +17,22 @@ pub fn refuse(text: &mut Vec<u8>) -> Result<bool, AllocError>
     Ok(true)
 }
 
+/// Takes back the `ok` of an edit that the plan refused; want of memory is passed on.
+fn refuse_edit(refusal: EditRefusal, text: &mut Vec<u8>) -> Result<(), AllocError>
+    ensures refused { IfOk result (λ _. IsForGood refusal) }
+    ensures text { IfOk result (λ _. text.new.items ≡ unbuilt_text) }
+{
+    match refusal {
+        EditRefusal::Memory(error) => Err(error),
+        _ => {
+            refuse(text)?;
+            Ok(())
+        }
+    }
+}
+
 /// Adds an event. The answer `ok` is written first, so that after want of memory the plan is as before.
+#[tactic(auto, unfolding(crate::specs::Answers::AnswersRequest))]
 pub fn add_event(plan: &mut Plan, text: &mut Vec<u8>, name: Name) -> Result<bool, AllocError>
     requires plain { IsPlain plan.old }
     requires empty { text.old.items ≡ [] }
@@ -28,8 +43,10 @@ pub fn add_event(plan: &mut Plan, text: &mut Vec<u8>, name: Name) -> Result<bool
     text.extend_from_slice(b"ok\n")?;
     match plan.add_event(name) {
         Ok(()) => Ok(false),
-        Err(EditRefusal::Memory(error)) => Err(error),
-        Err(_) => refuse(text),
+        Err(refusal) => {
+            refuse_edit(refusal, text)?;
+            Ok(true)
+        }
     }
 }
 
@@ -44,6 +61,7 @@ fn unpriced(bound: Option<i64>) -> Bounded
 
 /// Adds a requirement without prices and without a guard. The answer `ok` is written first, so that after
 /// want of memory the plan is as before.
+#[tactic(auto, unfolding(crate::specs::Answers::AnswersRequest))]
 pub fn add_requirement(
     plan: &mut Plan,
     text: &mut Vec<u8>,
@@ -64,7 +82,9 @@ pub fn add_requirement(
     text.extend_from_slice(b"ok\n")?;
     match plan.add_requirement(name, from, to, unpriced(lower), unpriced(upper), &[]) {
         Ok(()) => Ok(false),
-        Err(EditRefusal::Memory(error)) => Err(error),
-        Err(_) => refuse(text),
+        Err(refusal) => {
+            refuse_edit(refusal, text)?;
+            Ok(true)
+        }
     }
 }

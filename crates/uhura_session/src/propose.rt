@@ -3,7 +3,8 @@ ghost use Rattle.std.specs.Prelude.{◌≡◌, ℕ, ◌+◌, ◌≤◌, ◌++◌
 ghost use Rattle.uhura_text.specs.Number.{spelling};
 ghost use Rattle.uhura_plan.specs.Sound.{IsSound};
 ghost use Rattle.uhura_session.specs.ProposalText.{line_of, time_lines, proposal_text};
-ghost use Rattle.uhura_session.specs.Answers.{IsProposed, nothing_text};
+ghost use Rattle.uhura_session.specs.declared.reading.Request.TheVariants as asks;
+ghost use Rattle.uhura_session.specs.Answers.{AnswersRequest, IsProposed};
 ghost use Rattle.uhura_session.specs.Schedule.{time_at};
 ghost use Rattle.uhura_session.specs.Plain.{IsPlain, all_constraints, free, unloosened};
 
@@ -83,6 +84,7 @@ fn put_answer(
 
 /// Answers the question: writes the best proposal into the text, or `none`. The two lists are room to
 /// work in, kept from one question to the next.
+#[tactic(auto, unfolding(crate::specs::Answers::AnswersRequest))]
 pub fn propose(
     plan: &Plan,
     constraints: &mut Vec<Constraint>,
@@ -91,7 +93,7 @@ pub fn propose(
 ) -> Result<bool, AllocError>
     requires plain { IsPlain plan.now }
     requires empty { text.old.items ≡ [] }
-    ensures { IfOk result (λ refused. IsProposed (free plan.now) text.new.items × (refused ≡ false)) }
+    ensures { IfOk result (λ refused. AnswersRequest asks.Propose (free plan.now) text.new.items refused (free plan.now)) }
 {
     collect(constraints, plan)?;
     clear_times(times, plan.events() as usize)?;

@@ -7,7 +7,7 @@ use uhura_plan::Name;
 use uhura_text::{Words, is_quiet, number, words};
 
 /// What is asked of the session.
-#[derive(Drop)]
+#[derive(Clone, Copy, Debug)]
 pub enum Request {
     AddEvent {
         name: Name,
@@ -24,7 +24,7 @@ pub enum Request {
 
 /// A line as the session takes it: a blank line or a comment, a request, or a line that it doesn't
 /// understand yet.
-#[derive(Drop)]
+#[derive(Clone, Copy, Debug)]
 pub enum Reading {
     Quiet,
     Asks(Request),

@@ -1,6 +1,7 @@
 //! The session: a plan, and the text of the last answer.
 ghost use Rattle.std.specs.Prelude.{◌≡◌, [], IfOk, OnErr};
-ghost use Rattle.uhura_session.specs.Answers.{Answers, empty_state};
+ghost use Rattle.uhura_session.specs.Reading.{HasBounds};
+ghost use Rattle.uhura_session.specs.Answers.{Answers, AnswersRequest, empty_state};
 
 use crate::edit::{add_event, add_requirement, refuse};
 use crate::propose::propose;
@@ -46,6 +47,7 @@ impl Session {
 
     /// Answers a line, without its newline and its CR, and says whether it was refused. Of a line of more
     /// than 4,096 bytes the first 4,097 are enough. After want of memory the plan is as before.
+    #[tactic(auto, unfolding(crate::specs::Answers::Answers))]
     pub fn answer(&mut self, line: &[u8]) -> Result<bool, AllocError>
         ensures ok { IfOk result (λ refused. Answers self.old.state line.now self.new.text refused self.new.state) }
         ensures err { OnErr result (self.new.state ≡ self.old.state) }
@@ -54,22 +56,7 @@ impl Session {
         match read(line) {
             Reading::Quiet => Ok(false),
             Reading::Unread => refuse(&mut self.text),
-            Reading::Asks(Request::AddEvent { name }) => {
-                add_event(&mut self.plan, &mut self.text, name)
-            }
-            Reading::Asks(Request::AddRequirement {
-                name,
-                from,
-                to,
-                lower,
-                upper,
-            }) => add_requirement(&mut self.plan, &mut self.text, name, from, to, lower, upper),
-            Reading::Asks(Request::Propose) => propose(
-                &self.plan,
-                &mut self.constraints,
-                &mut self.times,
-                &mut self.text,
-            ),
+            Reading::Asks(request) => self.answer_request(request),
         }
     }
 
@@ -78,5 +65,30 @@ impl Session {
         ensures { result.now ≡ self.now.text }
     {
         &self.text
+    }
+
+    /// Answers a request into the empty text.
+    fn answer_request(&mut self, request: Request) -> Result<bool, AllocError>
+        requires empty { self.old.text ≡ [] }
+        requires within { HasBounds request }
+        ensures ok { IfOk result (λ refused. AnswersRequest request self.old.state self.new.text refused self.new.state) }
+        ensures err { OnErr result (self.new.state ≡ self.old.state) }
+    {
+        match request {
+            Request::AddEvent { name } => add_event(&mut self.plan, &mut self.text, name),
+            Request::AddRequirement {
+                name,
+                from,
+                to,
+                lower,
+                upper,
+            } => add_requirement(&mut self.plan, &mut self.text, name, from, to, lower, upper),
+            Request::Propose => propose(
+                &self.plan,
+                &mut self.constraints,
+                &mut self.times,
+                &mut self.text,
+            ),
+        }
     }
 }
