@@ -97,17 +97,25 @@ impl Lines {
         let used = self.used;
         self.used = 0;
         self.ended = Some(shown_length(&self.buffer[..used]));
-        if used <= LINE_LIMIT { Fed::Line } else { Fed::Long }
+        if used <= LINE_LIMIT {
+            Fed::Line
+        } else {
+            Fed::Long
+        }
     }
 }
 
 /// How many of a held line's bytes are shown.
 fn shown_length(line: &[u8]) -> usize
     requires { length line.now ≤ 4097 }
-    ensures { (result ≤ length line.now) × (take result line.now ≡ shown line.now) }
+    ensures bound { result ≤ length line.now }
+    ensures shown { take result line.now ≡ shown line.now }
 {
     let length = line.len();
-    if length <= LINE_LIMIT && length > 0 && line[length - 1] == b'\r' {
+    if length > LINE_LIMIT || length == 0 {
+        return length;
+    }
+    if line[length - 1] == b'\r' {
         length - 1
     } else {
         length
