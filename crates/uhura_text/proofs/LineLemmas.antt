@@ -1,9 +1,9 @@
 -- Lemmas on the lines of bytes: what is shown of a line, and how lines grow with the bytes.
-use Rattle.std.proofs.Common.{◌≡◌, ◌≢◌, ℕ, suc, ◌⊎◌, inl, inr, ◌+◌, ◌-◌, ◌<◌, ◌≤◌, Bool, true, false, cond, eqb, leb, List, [], ◌∷◌, ◌++◌, length, map, take, drop, get_or, set, refl, sym, ap, ◌∙◌, subst, arith, append-nil, length-append, length-take}
-use Rattle.std.proofs.lemmas.Bool.{le-leb, lt-leb, eq-eqb, ne_eqb, cases_eq, cases_lt}
+use Rattle.std.proofs.Common.{◌≡◌, ◌≢◌, ℕ, ◌⊎◌, inl, inr, ◌+◌, ◌-◌, ◌<◌, ◌≤◌, List, [], ◌∷◌, ◌++◌, length, take, get_or, set, refl, sym, ap, ◌∙◌, arith, length-append, length-take}
+use Rattle.std.proofs.lemmas.Bool.{le-leb, lt-leb, eq-eqb, ne_eqb}
 use Rattle.std.proofs.Math.Nat.{le_refl}
-use Rattle.std.proofs.lemmas.List.{nil_from_length, take_all, take-append-le, take_more_set, map-append}
-use Rattle.uhura_text.specs.Lines.{lines, raw_lines, whole, shown, without_cr, before_first_line, before_newline}
+use Rattle.std.proofs.lemmas.List.{nil_from_length, take_all, take-append-le, take_more_set}
+use Rattle.uhura_text.specs.Lines.{shown}
 
 -- a short line loses the CR at its end
 pub shown-with_cr : (l : List ℕ) → length l ≤ 4096 → get_or l (length l - 1) 0 ≡ 13 → take (length l - 1) l ≡ shown l
