@@ -1,4 +1,6 @@
 //! Uhura: reads a script of edits and questions, and answers line by line.
 #![tactic(auto)]
 
+mod run;
+
 fn main() {}
