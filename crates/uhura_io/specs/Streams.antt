@@ -22,3 +22,7 @@ pub record HasCause {A E : Type 0} (old new : ℕ) (r : Result A E) : Type 0 whe
 -- known bytes grow by a front of bs
 abbrev pub AppendsFront : Option (List ℕ) → Option (List ℕ) → List ℕ → Type 0
 AppendsFront old new bs = (n : ℕ) × (n ≤ length bs) × Appends old new (take n bs)
+
+-- a count that rises by n, up to its last value
+abbrev pub raised : ℕ → ℕ → ℕ
+raised count n = min (count + n) last_count
