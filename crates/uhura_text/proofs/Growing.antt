@@ -3,11 +3,7 @@ use Rattle.std.proofs.Common.{◌≡◌, ◌≢◌, ℕ, ◌≤◌, Bool, true, 
 use Rattle.std.proofs.lemmas.Bool.{ne_eqb, cases_Bool, cases_lt}
 use Rattle.std.proofs.lemmas.List.{nil_from_length, take_all, take_at, take-take, take-append-le, drop-append-le, drop_all, map-append}
 use Rattle.uhura_text.proofs.LineLemmas.{shown-long}
-use Rattle.uhura_text.specs.Lines.{lines, raw_lines, whole, shown, before_first_line, before_newline}
-
--- the bytes behind the last newline
-abbrev pub behind : List ℕ → List ℕ
-behind bs = drop (length (whole bs)) bs
+use Rattle.uhura_text.specs.Lines.{lines, raw_lines, whole, behind, shown, before_first_line, before_newline}
 
 -- ---- bytes are their whole part and what is behind it
 
@@ -128,6 +124,11 @@ raw_lines-finished (b ∷ bs) none = elim (cases_Bool (eqb b 10)) [
 ]
 
 -- ---- the same in the words of the contracts
+
+-- no bytes have no line
+pub lines-nil : lines [] ≡ []
+unfolding lines
+lines-nil = refl
 
 -- the lines of the whole part, and then those of what comes behind it
 pub lines-whole_append : (bs ys : List ℕ) → lines (whole bs ++ ys) ≡ lines (whole bs) ++ lines ys

@@ -1,5 +1,5 @@
 -- The lines of a list of bytes.
-use Rattle.std.specs.Prelude.{ℕ, ◌-◌, ◌==◌, nat_le, List, [], ◌∷◌, length, map, take, slice_index, if◌then◌else◌}
+use Rattle.std.specs.Prelude.{ℕ, ◌-◌, ◌==◌, nat_le, List, [], ◌∷◌, length, map, take, drop, slice_index, if◌then◌else◌}
 
 -- a byte in front of the first line, which it begins where there is none
 abbrev pub before_first_line : ℕ → List (List ℕ) → List (List ℕ)
@@ -32,3 +32,7 @@ before_newline b (c ∷ cs) = b ∷ c ∷ cs
 abbrev pub whole : List ℕ → List ℕ
 whole [] = []
 whole (b ∷ bs) = if b == 10 then b ∷ whole bs else before_newline b (whole bs)
+
+-- the bytes behind the last newline
+abbrev pub behind : List ℕ → List ℕ
+behind bs = drop (length (whole bs)) bs
