@@ -1,8 +1,8 @@
 -- How answers that stand go on: by a byte, by the line that it ends, and at the end of the input.
-use Rattle.std.proofs.Common.{◌≡◌, ◌≢◌, ℕ, ◌+◌, ◌≤◌, Bool, true, false, ◌||◌, ◌⊎◌, inl, inr, List, [], ◌∷◌, ◌++◌, length, take, Option, Some, None, Result, Ok, Err, refl, sym, ap, ◌∙◌, subst, arith, append-nil, append_assoc}
+use Rattle.std.proofs.Common.{◌≡◌, ◌≢◌, ℕ, ◌+◌, ◌<◌, ◌≤◌, Bool, true, false, ◌||◌, ◌⊎◌, inl, inr, List, [], ◌∷◌, ◌++◌, length, take, drop, get_or, Option, Some, None, Result, Ok, Err, refl, sym, ap, ◌∙◌, subst, arith, append-nil, append_assoc}
 use Rattle.std.proofs.Math.Seq.{take-append-add}
-use Rattle.std.proofs.KnownBytes.{Appends-nil}
-use Rattle.std.proofs.lemmas.List.{take_all}
+use Rattle.std.proofs.KnownBytes.{Appends-nil, Appends-trans}
+use Rattle.std.proofs.lemmas.List.{take_all, take_more, take-append-drop}
 use Rattle.std.specs.Io.KnownBytes.{Appends}
 use Rattle.uhura_io.specs.Streams.{AppendsFront}
 use Rattle.uhura_text.specs.Lines.{lines, whole, behind, shown}
@@ -206,3 +206,65 @@ pub end-ended : (before after : Option (List ℕ)) (old new : Reading) (state ne
 end-ended before after old new state next fed line result ended f lent a =
     let h = finishes-line old new fed ended f in
     end-line before after old state next line result h.0 (lent-line old new line h.1 lent) a
+
+-- ---- bytes one after another
+
+or_assoc : (a b c : Bool) → ((a || b) || c) ≡ (a || (b || c))
+or_assoc true b c = refl
+or_assoc false b c = refl
+
+-- no bytes change nothing
+pub bytes-nil : (before : Option (List ℕ)) (reading : Reading) (state : State) → AnswersBytes [] before before (Ok false) reading state reading state
+bytes-nil before reading state = record {
+  text = [];
+  added = Appends-nil before;
+  advances = λ bytes past refused s. rw (append-nil bytes, append-nil past, ← or-false refused) s;
+}
+
+-- bytes that were answered, and then more that were
+pub bytes-append : (xs ys : List ℕ) (first second third : Option (List ℕ)) (some other : Bool) (r₁ r₂ r₃ : Reading) (s₁ s₂ s₃ : State)
+    → AnswersBytes xs first second (Ok some) r₁ s₁ r₂ s₂ → AnswersBytes ys second third (Ok other) r₂ s₂ r₃ s₃
+    → AnswersBytes (xs ++ ys) first third (Ok (some || other)) r₁ s₁ r₃ s₃
+bytes-append xs ys first second third some other r₁ r₂ r₃ s₁ s₂ s₃ a b = record {
+  text = a.text ++ b.text;
+  added = Appends-trans first second third a.text b.text a.added b.added;
+  advances = λ bytes past refused s.
+    rw (← append_assoc bytes xs ys, ← append_assoc past a.text b.text, ← or_assoc refused some other)
+      (b.advances (bytes ++ xs) (past ++ a.text) (refused || some) (a.advances bytes past refused s));
+}
+
+-- bytes that were answered, and then more at which the run stopped
+pub bytes-stopped : (xs ys zs : List ℕ) (first second third : Option (List ℕ)) (some : Bool) (stop : Stop) (r₁ r₂ r₃ : Reading) (s₁ s₂ s₃ : State)
+    → AnswersBytes xs first second (Ok some) r₁ s₁ r₂ s₂ → AnswersBytes ys second third (Err stop) r₂ s₂ r₃ s₃
+    → AnswersBytes (xs ++ ys ++ zs) first third (Err stop) r₁ s₁ r₃ s₃
+bytes-stopped xs ys zs first second third some stop r₁ r₂ r₃ s₁ s₂ s₃ a b = record {
+  text = a.text ++ b.text;
+  added = Appends-trans first second third a.text b.text a.added b.added;
+  advances = λ bytes past refused s rest.
+    let front = b.advances (bytes ++ xs) (past ++ a.text) (refused || some) (a.advances bytes past refused s) (zs ++ rest) in
+    let all : (bytes ++ xs) ++ ys ++ (zs ++ rest) ≡ bytes ++ (xs ++ ys ++ zs) ++ rest = simp append_assoc in
+    let texts : (past ++ a.text) ++ b.text ≡ past ++ (a.text ++ b.text) = append_assoc past a.text b.text in
+    subst (λ l. IsFrontOfTranscript l (past ++ (a.text ++ b.text))) all (subst (λ l. IsFrontOfTranscript ((bytes ++ xs) ++ ys ++ (zs ++ rest)) l) texts front);
+}
+
+-- ---- the bytes of a piece
+
+-- the bytes before a place, the byte there, and those behind it
+pub split_at : (xs : List ℕ) (i : ℕ) → i < length xs → take i xs ++ get_or xs i 0 ∷ [] ++ drop (i + 1) xs ≡ xs
+split_at xs i h = ap (λ l. l ++ drop (i + 1) xs) (sym (take_more xs i 0 h)) ∙ take-append-drop (i + 1) xs
+
+-- one more byte of a piece was answered
+pub piece-more : (xs : List ℕ) (i : ℕ) (first second third : Option (List ℕ)) (some other : Bool) (r₁ r₂ r₃ : Reading) (s₁ s₂ s₃ : State) → i < length xs
+    → AnswersBytes (take i xs) first second (Ok some) r₁ s₁ r₂ s₂ → AnswersBytes (get_or xs i 0 ∷ []) second third (Ok other) r₂ s₂ r₃ s₃
+    → AnswersBytes (take (i + 1) xs) first third (Ok (some || other)) r₁ s₁ r₃ s₃
+piece-more xs i first second third some other r₁ r₂ r₃ s₁ s₂ s₃ h a b =
+    subst (λ l. AnswersBytes l first third (Ok (some || other)) r₁ s₁ r₃ s₃) (sym (take_more xs i 0 h))
+      (bytes-append (take i xs) (get_or xs i 0 ∷ []) first second third some other r₁ r₂ r₃ s₁ s₂ s₃ a b)
+
+-- the run stopped at a byte of a piece
+pub piece-stopped : (xs : List ℕ) (i : ℕ) (first second third : Option (List ℕ)) (some : Bool) (stop : Stop) (r₁ r₂ r₃ : Reading) (s₁ s₂ s₃ : State) → i < length xs
+    → AnswersBytes (take i xs) first second (Ok some) r₁ s₁ r₂ s₂ → AnswersBytes (get_or xs i 0 ∷ []) second third (Err stop) r₂ s₂ r₃ s₃
+    → AnswersBytes xs first third (Err stop) r₁ s₁ r₃ s₃
+piece-stopped xs i first second third some stop r₁ r₂ r₃ s₁ s₂ s₃ h a b =
+    subst (λ l. AnswersBytes l first third (Err stop) r₁ s₁ r₃ s₃) (split_at xs i h)
+      (bytes-stopped (take i xs) (get_or xs i 0 ∷ []) (drop (i + 1) xs) first second third some stop r₁ r₂ r₃ s₁ s₂ s₃ a b)

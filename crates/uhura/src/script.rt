@@ -53,3 +53,18 @@ fn finish<K: Sink>(lines: &mut Lines, session: &mut Session, sink: &mut K) -> Re
         Fed::Line | Fed::Long => answer_line(session, lines.line(), sink),
     }
 }
+
+/// Feeds some bytes, and answers the lines that they end. Says whether a line was refused.
+fn feed_all<K: Sink>(lines: &mut Lines, session: &mut Session, sink: &mut K, bytes: &[u8]) -> Result<bool, Stop>
+    ensures bytes { AnswersBytes bytes.now (K.written sink.old) (K.written sink.new) result lines.old session.old.state lines.new session.new.state }
+    ensures cause { HasStopCause (K.faults sink.old) (K.faults sink.new) result }
+{
+    let mut refused = false;
+    for byte in bytes {
+        match feed(lines, session, sink, *byte) {
+            Ok(some) => refused |= some,
+            Err(stop) => return Err(stop),
+        }
+    }
+    Ok(refused)
+}
