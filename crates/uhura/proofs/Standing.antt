@@ -1,21 +1,19 @@
 -- How answers that stand go on: by a byte, by the line that it ends, and at the end of the input.
-use Rattle.std.proofs.Common.{◌≡◌, ◌≢◌, ℕ, ◌+◌, ◌<◌, ◌≤◌, Bool, true, false, ◌||◌, ◌⊎◌, inl, inr, List, [], ◌∷◌, ◌++◌, length, take, drop, get_or, Option, Some, None, Result, Ok, Err, refl, sym, ap, ◌∙◌, subst, arith, append-nil, append_assoc}
+use Rattle.std.proofs.Common.{◌≡◌, ◌≢◌, ℕ, ◌+◌, ◌<◌, Bool, true, false, ◌||◌, ◌⊎◌, inl, inr, List, [], ◌∷◌, ◌++◌, length, take, drop, get_or, Option, Some, Result, Ok, Err, refl, sym, ap, ◌∙◌, subst, arith, append-nil, append_assoc}
 use Rattle.std.proofs.Math.Seq.{take-append-add}
 use Rattle.std.proofs.KnownBytes.{Appends-nil, Appends-trans}
 use Rattle.std.proofs.lemmas.List.{take_all, take_more, take-append-drop}
-use Rattle.std.specs.Io.KnownBytes.{Appends}
-use Rattle.uhura_io.specs.Streams.{AppendsFront}
 use Rattle.uhura_text.specs.Lines.{lines, whole, behind, shown}
 use Rattle.uhura_text.specs.Reading.{Reading, HandsOver, Feeds, Finishes}
 use Rattle.uhura_text.specs.declared.lines.Fed.{Fed}
 use Rattle.uhura_text.specs.declared.lines.Fed.TheVariants.{More, Line, Long}
-use Rattle.uhura_text.proofs.Growing.{lines-nil, whole-push_newline, whole-push_other, behind-push_newline, behind-push_other, lines-push_newline, lines-finished, lines-unfinished, take-lines_append, shown-take, take-take_push, nil-from_take}
+use Rattle.uhura_text.proofs.Growing.{lines-nil, whole-push_other, behind-push_newline, behind-push_other, lines-push_newline, lines-finished, lines-unfinished, take-lines_append, shown-take, take-take_push, nil-from_take}
 use Rattle.uhura_session.specs.State.{State}
 use Rattle.uhura_session.specs.Answers.{Answers, empty_state}
-use Rattle.uhura_session.specs.Transcript.{Conversation, Transcript}
+use Rattle.uhura_session.specs.Transcript.{Conversation}
 use Rattle.uhura_session.proofs.Conversing.{Conversation-nil, Conversation-push}
 use Rattle.uhura.specs.Run.{IsFrontOfTranscript}
-use Rattle.uhura.specs.Script.{AnswersLine, Stands, Advances, AnswersBytes, Completes, AnswersEnd}
+use Rattle.uhura.specs.Script.{AnswersLine, Stands, AnswersBytes, AnswersEnd}
 use Rattle.uhura.specs.declared.script.Stop.{Stop}
 use Rattle.uhura.specs.declared.script.Stop.TheVariants.{WriteFault, NoMemory}
 
@@ -51,7 +49,7 @@ pub answered : (bytes past : List ℕ) (refused : Bool) (reading : Reading) (sta
     → Conversation empty_state (lines (whole bytes) ++ shown (behind bytes) ∷ []) (past ++ answer) (refused || some) last
 answered bytes past refused reading state last answer some s a =
     Conversation-push (lines (whole bytes)) empty_state state last (shown (behind bytes)) past answer refused some s.conversation
-      (subst (λ l. Answers state l answer some last) (held_line bytes past refused reading state s) a)
+    (subst (λ l. Answers state l answer some last) (held_line bytes past refused reading state s) a)
 
 -- a newline ends the held line, which is answered
 pub Stands-newline : (bytes past : List ℕ) (refused : Bool) (old new : Reading) (state last : State) (answer : List ℕ) (some : Bool)
@@ -125,7 +123,7 @@ bytes-newline before after old new state next line (Err WriteFault) h is a = rec
   text = take a.2.0 a.0;
   added = a.2.2;
   advances = λ bytes past refused s rest.
-    front-answer bytes past refused old state a.1.1 a.0 a.1.0 a.2.0 (bytes ++ 10 ∷ [] ++ rest)
+      front-answer bytes past refused old state a.1.1 a.0 a.1.0 a.2.0 (bytes ++ 10 ∷ [] ++ rest)
       (length (lines (whole (bytes ++ 10 ∷ [])))) (take-lines_append (bytes ++ 10 ∷ []) rest ∙ lines-push_newline bytes)
       s (subst (λ l. Answers state l a.0 a.1.0 a.1.1) is a.1.2);
 }
@@ -133,7 +131,7 @@ bytes-newline before after old new state next line (Err NoMemory) h is a = recor
   text = [];
   added = a;
   advances = λ bytes past refused s rest.
-    rw (append-nil past, append_assoc bytes (10 ∷ []) rest) (front-standing bytes past refused old state (10 ∷ [] ++ rest) s);
+      rw (append-nil past, append_assoc bytes (10 ∷ []) rest) (front-standing bytes past refused old state (10 ∷ [] ++ rest) s);
 }
 
 -- the same of the byte as it was fed
@@ -143,7 +141,7 @@ pub bytes-line : (before after : Option (List ℕ)) (old new : Reading) (state n
 bytes-line before after old new state next byte fed line result ended f lent a =
     let h = feeds-line old new byte fed ended f in
     subst (λ b. AnswersBytes (b ∷ []) before after result old state new next) (sym h.0)
-      (bytes-newline before after old new state next line result h.1 (lent-line old new line h.1 lent) a)
+    (bytes-newline before after old new state next line result h.1 (lent-line old new line h.1 lent) a)
 
 -- ---- the end of the input
 
@@ -180,14 +178,14 @@ end-line before after old state next line (Ok refused) some is a = record {
   completes = λ bytes past any s. record {
     last = next;
     conversation = rw (lines-unfinished bytes (behind-some bytes past any old state some s))
-      (answered bytes past any old state next a.0 refused s (subst (λ l. Answers state l a.0 refused next) is a.1));
+        (answered bytes past any old state next a.0 refused s (subst (λ l. Answers state l a.0 refused next) is a.1));
   };
 }
 end-line before after old state next line (Err WriteFault) some is a = record {
   text = take a.2.0 a.0;
   added = a.2.2;
   completes = λ bytes past refused s.
-    front-answer bytes past refused old state a.1.1 a.0 a.1.0 a.2.0 bytes
+      front-answer bytes past refused old state a.1.1 a.0 a.1.0 a.2.0 bytes
       (length (lines bytes)) (take_all (length (lines bytes)) (lines bytes) (omega arith) ∙ lines-unfinished bytes (behind-some bytes past refused old state some s))
       s (subst (λ l. Answers state l a.0 a.1.0 a.1.1) is a.1.2);
 }
@@ -195,8 +193,8 @@ end-line before after old state next line (Err NoMemory) some is a = record {
   text = [];
   added = a;
   completes = λ bytes past refused s.
-    let front : IsFrontOfTranscript (bytes ++ []) past = front-standing bytes past refused old state [] s in
-    rw (append-nil past) (rw append-nil at front);
+      let front : IsFrontOfTranscript (bytes ++ []) past = front-standing bytes past refused old state [] s in
+      rw (append-nil past) (rw append-nil at front);
 }
 
 -- the same of the end as it was told
@@ -229,7 +227,7 @@ bytes-append xs ys first second third some other r₁ r₂ r₃ s₁ s₂ s₃ a
   text = a.text ++ b.text;
   added = Appends-trans first second third a.text b.text a.added b.added;
   advances = λ bytes past refused s.
-    rw (← append_assoc bytes xs ys, ← append_assoc past a.text b.text, ← or_assoc refused some other)
+      rw (← append_assoc bytes xs ys, ← append_assoc past a.text b.text, ← or_assoc refused some other)
       (b.advances (bytes ++ xs) (past ++ a.text) (refused || some) (a.advances bytes past refused s));
 }
 
@@ -241,10 +239,10 @@ bytes-stopped xs ys zs first second third some stop r₁ r₂ r₃ s₁ s₂ s�
   text = a.text ++ b.text;
   added = Appends-trans first second third a.text b.text a.added b.added;
   advances = λ bytes past refused s rest.
-    let front = b.advances (bytes ++ xs) (past ++ a.text) (refused || some) (a.advances bytes past refused s) (zs ++ rest) in
-    let all : (bytes ++ xs) ++ ys ++ (zs ++ rest) ≡ bytes ++ (xs ++ ys ++ zs) ++ rest = simp append_assoc in
-    let texts : (past ++ a.text) ++ b.text ≡ past ++ (a.text ++ b.text) = append_assoc past a.text b.text in
-    subst (λ l. IsFrontOfTranscript l (past ++ (a.text ++ b.text))) all (subst (λ l. IsFrontOfTranscript ((bytes ++ xs) ++ ys ++ (zs ++ rest)) l) texts front);
+      let front = b.advances (bytes ++ xs) (past ++ a.text) (refused || some) (a.advances bytes past refused s) (zs ++ rest) in
+      let all : (bytes ++ xs) ++ ys ++ (zs ++ rest) ≡ bytes ++ (xs ++ ys ++ zs) ++ rest = simp append_assoc in
+      let texts : (past ++ a.text) ++ b.text ≡ past ++ (a.text ++ b.text) = append_assoc past a.text b.text in
+      subst (λ l. IsFrontOfTranscript l (past ++ (a.text ++ b.text))) all (subst (λ l. IsFrontOfTranscript ((bytes ++ xs) ++ ys ++ (zs ++ rest)) l) texts front);
 }
 
 -- ---- the bytes of a piece
@@ -259,7 +257,7 @@ pub piece-more : (xs : List ℕ) (i : ℕ) (first second third : Option (List �
     → AnswersBytes (take (i + 1) xs) first third (Ok (some || other)) r₁ s₁ r₃ s₃
 piece-more xs i first second third some other r₁ r₂ r₃ s₁ s₂ s₃ h a b =
     subst (λ l. AnswersBytes l first third (Ok (some || other)) r₁ s₁ r₃ s₃) (sym (take_more xs i 0 h))
-      (bytes-append (take i xs) (get_or xs i 0 ∷ []) first second third some other r₁ r₂ r₃ s₁ s₂ s₃ a b)
+    (bytes-append (take i xs) (get_or xs i 0 ∷ []) first second third some other r₁ r₂ r₃ s₁ s₂ s₃ a b)
 
 -- the run stopped at a byte of a piece
 pub piece-stopped : (xs : List ℕ) (i : ℕ) (first second third : Option (List ℕ)) (some : Bool) (stop : Stop) (r₁ r₂ r₃ : Reading) (s₁ s₂ s₃ : State) → i < length xs
@@ -267,4 +265,4 @@ pub piece-stopped : (xs : List ℕ) (i : ℕ) (first second third : Option (List
     → AnswersBytes xs first third (Err stop) r₁ s₁ r₃ s₃
 piece-stopped xs i first second third some stop r₁ r₂ r₃ s₁ s₂ s₃ h a b =
     subst (λ l. AnswersBytes l first third (Err stop) r₁ s₁ r₃ s₃) (split_at xs i h)
-      (bytes-stopped (take i xs) (get_or xs i 0 ∷ []) (drop (i + 1) xs) first second third some stop r₁ r₂ r₃ s₁ s₂ s₃ a b)
+    (bytes-stopped (take i xs) (get_or xs i 0 ∷ []) (drop (i + 1) xs) first second third some stop r₁ r₂ r₃ s₁ s₂ s₃ a b)

@@ -5,8 +5,8 @@ use Rattle.uhura_text.specs.Lines.{lines, whole}
 use Rattle.uhura_session.specs.State.{State}
 use Rattle.uhura_session.specs.Answers.{empty_state}
 use Rattle.uhura_session.specs.Transcript.{Conversation, Transcript}
-use Rattle.uhura.specs.declared.run.Status.{Status}
-use Rattle.uhura.specs.declared.run.Status.TheVariants.{Done, Refused, Usage, TooLong, ReadFault, WriteFault, NoMemory}
+use Rattle.uhura.specs.declared.status.Status.{Status}
+use Rattle.uhura.specs.declared.status.Status.TheVariants.{Done, Refused, Usage, TooLong, ReadFault, WriteFault, NoMemory}
 
 -- the words that run a script: none, or the word run
 abbrev pub is_listed : {A : Type 0} → List (String A) → Bool

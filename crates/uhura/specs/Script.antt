@@ -1,5 +1,5 @@
 -- What the steps of a run leave: one line, some bytes, the end of the input.
-use Rattle.std.specs.Prelude.{◌≡◌, ℕ, ◌≤◌, Bool, ◌||◌, List, [], ◌++◌, take, Option, Result, Ok, Err}
+use Rattle.std.specs.Prelude.{◌≡◌, ℕ, ◌≤◌, Bool, true, false, ◌||◌, List, [], ◌++◌, take, Option, Result, Ok, Err}
 use Rattle.std.specs.Io.KnownBytes.{Appends}
 use Rattle.uhura_io.specs.Streams.{AppendsFront, HasRisen}
 use Rattle.uhura_text.specs.Lines.{lines, whole, behind}
@@ -10,6 +10,8 @@ use Rattle.uhura_session.specs.Transcript.{Conversation, Transcript}
 use Rattle.uhura.specs.Run.{IsFrontOfTranscript}
 use Rattle.uhura.specs.declared.script.Stop.{Stop}
 use Rattle.uhura.specs.declared.script.Stop.TheVariants.{WriteFault, NoMemory}
+use Rattle.uhura.specs.declared.status.Status.{Status}
+use Rattle.uhura.specs.declared.status.Status.TheVariants as status
 
 -- the faults never fall, and a write fault comes only where they rose
 pub record HasStopCause (old new : ℕ) (result : Result Bool Stop) : Type 0 where
@@ -53,3 +55,22 @@ pub record AnswersEnd (before after : Option (List ℕ)) (result : Result Bool S
   pub added : Appends before after text
   pub completes : (bytes past : List ℕ) (refused : Bool) → Stands bytes past refused reading state
       → Completes bytes (past ++ text) refused result
+
+-- the status of a run that stopped
+abbrev pub status_of : Stop → Status
+status_of WriteFault = status.WriteFault
+status_of NoMemory = status.NoMemory
+
+-- at the end of the input, by the status: the text is a transcript of all bytes, refused or not, or a front of one
+abbrev pub CompletesAs : List ℕ → List ℕ → Status → Type 0
+CompletesAs bytes text status.Done = Transcript bytes text false
+CompletesAs bytes text status.Refused = Transcript bytes text true
+CompletesAs bytes text status.WriteFault = IsFrontOfTranscript bytes text
+CompletesAs bytes text status.NoMemory = IsFrontOfTranscript bytes text
+CompletesAs bytes text _ = ⊥
+
+-- the end of the input was told, and this is the run's status
+pub record EndsRun (before after : Option (List ℕ)) (refused : Bool) (result : Status) (reading : Reading) (state : State) : Type 0 where
+  pub text : List ℕ
+  pub added : Appends before after text
+  pub completes : (bytes past : List ℕ) → Stands bytes past refused reading state → CompletesAs bytes (past ++ text) result

@@ -3,5 +3,8 @@
 
 mod run;
 mod script;
+mod status;
+
+use status::Status;
 
 fn main() {}

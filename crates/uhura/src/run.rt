@@ -1,36 +1,26 @@
 //! The run of a script: its lines are answered as they are read.
 ghost use Rattle.std.specs.Prelude.{◌≡◌, ◌+◌, ◌^◌, ◌<◌, ◌≤◌, ◌⊎◌, ◌↔◌, false};
 ghost use Rattle.uhura_io.specs.Streams.{HasRisen};
-ghost use Rattle.uhura.specs.declared.run.Status.TheVariants.{Done, Refused, Usage, TooLong, ReadFault, WriteFault};
+ghost use Rattle.uhura.specs.declared.status.Status.TheVariants.{Done, Refused, Usage, TooLong, ReadFault, WriteFault};
 ghost use Rattle.uhura.specs.Run.{is_listed, script_limit, Runs};
 
-use std::alloc::Global;
+use crate::Status;
+use crate::script::answer_script;
+use std::alloc::{AllocError, Global};
 use uhura_io::{Sink, Source};
-
-/// How a run ended, which is also the exit status of the program.
-#[derive(Clone, Copy, Debug, PartialEq, Eq)]
-pub enum Status {
-    /// All lines were answered, and none was refused.
-    Done = 0,
-    /// All lines were answered, and some were refused.
-    Refused = 1,
-    /// The words on the command line are none of those listed.
-    Usage = 2,
-    /// The script has more than 67,108,864 bytes.
-    TooLong = 3,
-    /// The script could not be read.
-    ReadFault = 4,
-    /// An answer could not be written.
-    WriteFault = 5,
-    /// There was no memory.
-    NoMemory = 6,
-}
+use uhura_session::Session;
+use uhura_text::Lines;
 
 /// Reads a script from the source and writes the answers to its lines, in order, to the sink.
 ///
 /// The words are none, or the one word `run`. Each read asks for 4,096 bytes, and the answers to all whole lines that
 /// were read are written before the next read. An answer is composed in memory before its first byte is written.
-pub fn run<S: Source, K: Sink>(alloc: Global, words: &Vec<String>, source: &mut S, sink: &mut K) -> Status
+pub fn run<S: Source, K: Sink>(
+    alloc: Global,
+    words: &Vec<String>,
+    source: &mut S,
+    sink: &mut K,
+) -> Status
     ensures usage { (result ≡ Usage) ↔ (is_listed words.now.items ≡ false) }
     ensures untouched { result ≡ Usage → (source.new ≡ source.old) × (sink.new ≡ sink.old) }
 
@@ -45,11 +35,18 @@ pub fn run<S: Source, K: Sink>(alloc: Global, words: &Vec<String>, source: &mut 
     ensures source_faults { S.faults source.old ≤ S.faults source.new }
     ensures sink_faults { K.faults sink.old ≤ K.faults sink.new }
 {
-    if is_listed(words) {
-        Status::NoMemory
-    } else {
-        Status::Usage
+    if !is_listed(words) {
+        return Status::Usage;
     }
+    let mut lines = match Lines::new(alloc) {
+        Ok(lines) => lines,
+        Err(AllocError) => return Status::NoMemory,
+    };
+    let mut session = match Session::new(alloc) {
+        Ok(session) => session,
+        Err(AllocError) => return Status::NoMemory,
+    };
+    answer_script(&mut lines, &mut session, source, sink)
 }
 
 /// Whether these words run a script.
