@@ -1,18 +1,19 @@
--- What a contract sees of a reader of the system: two counts, and nothing of its bytes.
+-- What a contract sees of a reader and a writer whose faults are counted.
 use Rattle.std.specs.Prelude.{ℕ, Result, Ok, Err}
 use Rattle.uhura_io.specs.Streams.{raised}
 
--- how many bytes it gave, and how often it failed
-pub record Counted : Type 0 where
+-- a reader, how many bytes it gave, and how often it failed
+pub record Input (R : Type 0) : Type 0 where
+  pub reader : R
   pub given : ℕ
   pub faults : ℕ
 
--- the counts after a read
-abbrev pub after_input : {E : Type 0} → Counted → Result ℕ E → Counted
-after_input s (Ok n) = record s { given = raised s.given n }
-after_input s (Err _) = record s { faults = raised s.faults 1 }
+-- a writer, and how often it failed
+pub record Output (W : Type 0) : Type 0 where
+  pub writer : W
+  pub faults : ℕ
 
--- the faults after a write
-abbrev pub after_output : {E : Type 0} → ℕ → Result ℕ E → ℕ
-after_output faults (Ok _) = faults
-after_output faults (Err _) = raised faults 1
+-- the faults after a read or a write: an error is counted
+abbrev pub faults_after : {E : Type 0} → ℕ → Result ℕ E → ℕ
+faults_after faults (Ok _) = faults
+faults_after faults (Err _) = raised faults 1

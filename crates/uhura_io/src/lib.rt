@@ -25,3 +25,6 @@ pub use write::write_all;
 /// A read or a write that failed. The stream's count of faults rose.
 #[derive(Clone, Copy, Debug, PartialEq, Eq)]
 pub struct Failed;
+
+#[cfg(test)]
+mod tests;

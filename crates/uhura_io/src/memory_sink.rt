@@ -5,11 +5,10 @@ ghost use Rattle.std.specs.Io.KnownBytes.{WriteAppends};
 ghost use Rattle.uhura_io.specs.Streams.{HasCause};
 ghost use Rattle.uhura_io.specs.MemorySink.{Refuses, write_size, after_write};
 
-use std::alloc::{AllocError, Global};
-use std::marker::Model;
-
 use crate::copying::copy_behind;
 use crate::{Failed, Sink};
+use std::alloc::{AllocError, Global};
+use std::marker::Model;
 
 /// A sink that keeps what is written, up to its capacity. It takes at most a piece at a time, and its writes,
 /// counted from 1, fail where it was told to.
@@ -30,12 +29,12 @@ impl Model for MemorySink {
     ghost Value = { Writable };
 
     ghost view = { λ s. record {
-        written = take s.used s.buffer.items;
-        capacity = length s.buffer.items;
-        piece = s.piece;
-        failing = s.failing.items;
-        writes = s.writes;
-        faults = s.faults;
+      written = take s.used s.buffer.items;
+      capacity = length s.buffer.items;
+      piece = s.piece;
+      failing = s.failing.items;
+      writes = s.writes;
+      faults = s.faults;
     } };
 
     ghost invariant = { λ s. (s.used ≤ length s.buffer.items) × (0 < s.piece) };
@@ -52,12 +51,12 @@ impl MemorySink {
     ) -> Result<MemorySink, AllocError>
         requires { 0 < piece }
         ensures { IfOk result (λ s. s ≡ record {
-            written = [];
-            capacity = capacity;
-            piece = piece;
-            failing = failing.now;
-            writes = 0;
-            faults = 0;
+          written = [];
+          capacity = capacity;
+          piece = piece;
+          failing = failing.now;
+          writes = 0;
+          faults = 0;
         }) }
     {
         Ok(MemorySink {

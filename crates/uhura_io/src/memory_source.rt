@@ -5,11 +5,10 @@ ghost use Rattle.std.specs.Io.KnownBytes.{ReadConsumes};
 ghost use Rattle.uhura_io.specs.Streams.{Counts, HasCause};
 ghost use Rattle.uhura_io.specs.MemorySource.{next_read, read_size, after_read};
 
-use std::alloc::{AllocError, Global};
-use std::marker::Model;
-
 use crate::copying::copy_front;
 use crate::{Failed, Source};
+use std::alloc::{AllocError, Global};
+use std::marker::Model;
 
 /// A source over bytes that it holds. It gives at most a piece at a time, and its reads, counted from 1,
 /// fail where it was told to.
@@ -31,12 +30,12 @@ impl Model for MemorySource {
     ghost Value = { Readable };
 
     ghost view = { λ s. record {
-        left = drop s.at s.bytes.items;
-        piece = s.piece;
-        failing = s.failing.items;
-        reads = s.reads;
-        given = s.given;
-        faults = s.faults;
+      left = drop s.at s.bytes.items;
+      piece = s.piece;
+      failing = s.failing.items;
+      reads = s.reads;
+      given = s.given;
+      faults = s.faults;
     } };
 
     ghost invariant = { λ s. (s.at ≤ length s.bytes.items) × (0 < s.piece) };
@@ -52,12 +51,12 @@ impl MemorySource {
     ) -> Result<MemorySource, AllocError>
         requires { 0 < piece }
         ensures { IfOk result (λ s. s ≡ record {
-            left = bytes.now;
-            piece = piece;
-            failing = failing.now;
-            reads = 0;
-            given = 0;
-            faults = 0;
+          left = bytes.now;
+          piece = piece;
+          failing = failing.now;
+          reads = 0;
+          given = 0;
+          faults = 0;
         }) }
     {
         Ok(MemorySource {

@@ -4,9 +4,8 @@ ghost use Rattle.std.specs.Io.{WritesAtMost};
 ghost use Rattle.std.specs.Io.KnownBytes.{WriteAppends};
 ghost use Rattle.uhura_io.specs.Streams.{HasCause, raised};
 
-use std::marker::Model;
-
 use crate::{Failed, Sink};
+use std::marker::Model;
 
 /// A sink that keeps only how many bytes it took, up to the last value of a 64-bit count. It doesn't tell what
 /// is written, and its count of faults is always 0: none of its writes fails.

@@ -5,11 +5,10 @@ ghost use Rattle.std.specs.Io.KnownBytes.{ReadConsumes};
 ghost use Rattle.uhura_io.specs.Streams.{Counts, HasCause};
 ghost use Rattle.uhura_io.specs.SteadySource.{after_giving};
 
-use std::alloc::{AllocError, Global};
-use std::marker::Model;
-
 use crate::copying::copy_front;
 use crate::{Failed, Source};
+use std::alloc::{AllocError, Global};
+use std::marker::Model;
 
 /// A source over bytes that it holds, whose count of faults is always 0: none of its reads fails.
 #[derive(Debug, Drop)]

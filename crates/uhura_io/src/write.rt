@@ -13,7 +13,10 @@ pub fn write_all<K: Sink>(sink: &mut K, bytes: &[u8]) -> Result<(), Failed>
 {
     let mut at = 0;
     while at < bytes.len() {
-        at += sink.write(&bytes[at..])?;
+        match sink.write(&bytes[at..]) {
+            Ok(taken) => at += taken,
+            Err(failed) => return Err(failed),
+        }
     }
     Ok(())
 }

@@ -13,7 +13,7 @@ Appends-next_piece a b c bs at n before piece = rw take-add (Appends-trans a b c
 
 pub loop-at-preserved : goal.loop-at-preserved
 loop-at-preserved g c = record {
-  in_bounds = omega (arith, c.in_ok-at.ensures.bound);
-  written = Appends-next_piece _ _ _ _ _ _ c.loop-at.invariant.written c.in_ok-at.ensures.bytes;
-  kept = omega (arith, c.in_ok-at.ensures.cause.kept);
+  in_bounds = omega (arith, c.in-Ok.ensures.bound);
+  written = Appends-next_piece _ _ _ _ _ _ c.loop-at.invariant.written c.in-Ok.ensures.bytes;
+  kept = omega (arith, c.in-Ok.ensures.cause.kept);
 }
