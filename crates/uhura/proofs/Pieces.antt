@@ -61,16 +61,16 @@ leaves-completed NoMemory bytes text left end within c = c
 -- a piece that is within the limit was answered
 pub Going-more : {left left' left'' written written' written'' : Option (List ℕ)} {given given' given'' room : ℕ} {refused some : Bool} {reading reading' : Reading} {state state' : State}
     → Going left left' written written' given given' room refused reading state
-    → (buffer : List ℕ) (n : ℕ) → n ≤ length buffer → n ≤ room → Consumes left' left'' (take n buffer)
-    → given'' ≡ min (given' + n) last_count → AnswersBytes (take n buffer) written' written'' (Ok some) reading state reading' state'
+    → (buffer : List ℕ) (n k : ℕ) → n ≤ length buffer → n ≤ room → k ≡ n → Consumes left' left'' (take n buffer)
+    → given'' ≡ min (given' + n) last_count → AnswersBytes (take k buffer) written' written'' (Ok some) reading state reading' state'
     → Going left left'' written written'' given given'' (room - n) (refused || some) reading' state'
-Going-more g buffer n bound fits taken count a = record {
+Going-more {refused = refused} {some = some} {reading' = reading'} {state' = state'} g buffer n k bound fits is taken count a = record {
   bytes = g.bytes ++ take n buffer;
   text = g.text ++ a.text;
   taken = Consumes-trans _ _ _ g.bytes (take n buffer) g.taken taken;
   added = Appends-trans _ _ _ g.text a.text g.added a.added;
   size = omega (arith, length-append g.bytes (take n buffer), length-take-le n buffer bound, g.size);
-  stands = a.advances g.bytes g.text _ g.stands;
+  stands = subst (λ m. Stands (g.bytes ++ take m buffer) (g.text ++ a.text) (refused || some) reading' state') is (a.advances g.bytes g.text refused g.stands);
   count = λ small. omega (arith, length-append g.bytes (take n buffer), length-take-le n buffer bound, g.size, g.count small, count);
 }
 

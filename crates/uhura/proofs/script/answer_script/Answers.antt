@@ -1,5 +1,5 @@
 use Rattle.std.proofs.Common.{refl, arith}
-use Rattle.uhura.proofs.Pieces.{Going-start, Runs-stopped, Runs-too_long, Runs-ended}
+use Rattle.uhura.proofs.Pieces.{Going-start, Going-more, Runs-stopped, Runs-too_long, Runs-ended}
 use Rattle.uhura.proofs.script.answer_script.Goals as goal
 
 pub pieces-init : goal.pieces-init
@@ -22,3 +22,12 @@ returns-in-Err-feed_all-clause-bytes g c =
 pub returns-then-given-room-clause-bytes : goal.returns-then-given-room-clause-bytes
 returns-then-given-room-clause-bytes g c =
     Runs-too_long c.pieces.invariant.going _ _ _ c.in-Ok.ensures.bound.0 c.if-given-room.true (omega arith) c.in-Ok.ensures.bytes.0 c.in-Ok-feed_all.ensures.bytes
+
+pub pieces-preserved : goal.pieces-preserved
+pieces-preserved g c = record {
+  going =
+    Going-more c.pieces.invariant.going _ _ _ c.in-Ok.ensures.bound.0 c.if-given-room.false (omega arith) c.in-Ok.ensures.bytes.0
+      c.in-Ok.ensures.count c.in-Ok-feed_all.ensures.bytes;
+  source_faults = omega (arith, c.pieces.invariant.source_faults, c.in-Ok.ensures.cause.kept);
+  sink_faults = omega (arith, c.pieces.invariant.sink_faults, c.in-Ok-feed_all.ensures.cause.kept);
+}
