@@ -121,3 +121,61 @@ fn shown_length(line: &[u8]) -> usize
         length
     }
 }
+
+#[cfg(test)]
+mod tests {
+    use super::*;
+
+    #[test]
+    fn a_text_is_cut_at_its_newlines(rt: HostRuntime) -> Result<(), AllocError> {
+        let mut lines = Lines::new(rt.alloc())?;
+        for (text, shown) in [
+            (&b"ab"[..], &b"ab"[..]),
+            (b"", b""),
+            (b"ab\r", b"ab"),
+            (b"a\rb\r\r", b"a\rb\r"),
+        ] {
+            for byte in text {
+                assert_eq!(rt; lines.feed(*byte), Fed::More);
+            }
+            match lines.feed(b'\n') {
+                Fed::Line | Fed::Long => assert!(rt; lines.line() == shown),
+                Fed::More => assert!(rt; false),
+            }
+        }
+        Ok(())
+    }
+
+    #[test]
+    fn a_line_is_long_past_its_limit(rt: HostRuntime) -> Result<(), AllocError> {
+        let mut lines = Lines::new(rt.alloc())?;
+        for (bytes, fed, shown) in [
+            (4096, Fed::Line, 4096),
+            (4097, Fed::Long, 4097),
+            (4098, Fed::Long, 4097),
+        ] {
+            for _ in 0..bytes {
+                assert_eq!(rt; lines.feed(b'a'), Fed::More);
+            }
+            let ended = lines.feed(b'\n');
+            assert_eq!(rt; ended, fed);
+            match ended {
+                Fed::Line | Fed::Long => assert_eq!(rt; lines.line().len(), shown),
+                Fed::More => assert!(rt; false),
+            }
+        }
+        Ok(())
+    }
+
+    #[test]
+    fn the_end_of_the_input_ends_an_unfinished_line(rt: HostRuntime) -> Result<(), AllocError> {
+        let mut lines = Lines::new(rt.alloc())?;
+        assert_eq!(rt; lines.finish(), Fed::More);
+        assert_eq!(rt; lines.feed(b'a'), Fed::More);
+        match lines.finish() {
+            Fed::Line | Fed::Long => assert!(rt; lines.line() == b"a".as_slice()),
+            Fed::More => assert!(rt; false),
+        }
+        Ok(())
+    }
+}
