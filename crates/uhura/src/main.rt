@@ -1,4 +1,27 @@
 //! Uhura: reads a script of edits and questions, and answers line by line.
 #![tactic(auto)]
 
-fn main() {}
+mod arguments;
+mod run;
+mod script;
+mod status;
+
+use std::process::ExitCode;
+use uhura_io::{InputSource, OutputSink};
+
+use arguments::arguments;
+use run::run;
+use status::Status;
+
+fn main(rt: HostRuntime) -> ExitCode {
+    let status = match arguments(&rt) {
+        Ok(words) => run(
+            rt.alloc(),
+            &words,
+            &mut InputSource::new(rt.stdin()),
+            &mut OutputSink::new(rt.stdout()),
+        ),
+        Err(status) => status,
+    };
+    ExitCode::from(status as u8)
+}

@@ -8,3 +8,4 @@ pub mod Walk
 pub mod PlainBounds
 pub mod PlainText
 pub mod PlainEdits
+pub mod Conversing

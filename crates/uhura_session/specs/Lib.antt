@@ -5,3 +5,4 @@ pub mod Session
 pub mod Plain
 pub mod Schedule
 pub mod Passes
+pub mod Transcript

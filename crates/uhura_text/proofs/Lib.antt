@@ -1,3 +1,5 @@
+pub mod Growing
+pub mod LineLemmas
 pub mod NumberLemmas
 pub mod PlaceLemmas
 pub mod SpellingLemmas

@@ -1,2 +1,4 @@
+pub mod Lines
 pub mod Number
+pub mod Reading
 pub mod Words

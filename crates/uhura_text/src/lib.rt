@@ -1,10 +1,12 @@
 //! Text of scripts: lines out of bytes, words out of a line, numbers both ways.
 #![tactic(auto)]
 
+mod lines;
 mod numeral;
 mod split;
 mod word;
 
+pub use lines::{Fed, Lines};
 pub use numeral::{NotNumber, number, put_number};
 pub use split::{BadByte, is_quiet, words};
 pub use word::Words;

@@ -1,0 +1,15 @@
+use Rattle.std.proofs.Common.{◌≤◌}
+use Rattle.uhura.proofs.Pieces.{Going}
+use Rattle.uhura.proofs.script.answer_script.Given as goal
+
+abbrev pub invariant-pieces : goal.invariant-pieces
+invariant-pieces g l = record {
+  going : Going (g.S.Source.left l.initial.source) (g.S.Source.left l.source) (g.K.Sink.written l.initial.sink) (g.K.Sink.written l.sink)
+      (g.S.Source.given l.initial.source) (g.S.Source.given l.source) l.room l.refused l.lines l.session.state;
+  source_faults : g.S.Source.faults l.initial.source ≤ g.S.Source.faults l.source;
+  sink_faults : g.K.Sink.faults l.initial.sink ≤ g.K.Sink.faults l.sink;
+}
+
+-- each piece takes of the room that is left
+abbrev pub decreases-pieces : goal.decreases-pieces
+decreases-pieces g l = l.room

@@ -1,0 +1,163 @@
+//! The answers to a script, line by line as its bytes are read.
+ghost use Rattle.std.specs.Prelude.{◌≡◌, ◌≢◌, ◌+◌, ◌^◌, ◌<◌, ◌≤◌, ◌⊎◌, ◌∷◌, []};
+ghost use Rattle.uhura_io.specs.Streams.{HasRisen};
+ghost use Rattle.uhura_text.specs.Reading.{IsFresh};
+ghost use Rattle.uhura_session.specs.Answers.{empty_state};
+ghost use Rattle.uhura.specs.declared.status.Status.TheVariants.{Done, Refused, Usage, TooLong, ReadFault, WriteFault};
+ghost use Rattle.uhura.specs.Run.{script_limit, Runs};
+ghost use Rattle.uhura.specs.Script.{AnswersLine, AnswersBytes, AnswersEnd, HasStopCause, status_of, EndsRun};
+
+use crate::Status;
+use std::alloc::AllocError;
+use uhura_io::{Failed, Sink, Source, write_all};
+use uhura_session::Session;
+use uhura_text::{Fed, Lines};
+
+/// How many bytes each read asks for.
+const PIECE: usize = 4096;
+
+/// How many bytes a script may have.
+const SCRIPT_LIMIT: usize = 67_108_864;
+
+/// Why the answers end before the script does.
+#[derive(Clone, Copy, Debug, PartialEq, Eq)]
+pub(crate) enum Stop {
+    WriteFault,
+    NoMemory,
+}
+
+/// Answers one line, and says whether it is refused.
+fn answer_line<K: Sink>(session: &mut Session, line: &[u8], sink: &mut K) -> Result<bool, Stop>
+    ensures line { AnswersLine session.old.state line.now (K.written sink.old) result session.new.state (K.written sink.new) }
+    ensures cause { HasStopCause (K.faults sink.old) (K.faults sink.new) result }
+{
+    let refused = match session.answer(line) {
+        Ok(refused) => refused,
+        Err(AllocError) => return Err(Stop::NoMemory),
+    };
+    match write_all(sink, session.text()) {
+        Ok(()) => Ok(refused),
+        Err(Failed) => Err(Stop::WriteFault),
+    }
+}
+
+/// Feeds one byte, and answers the line that it ends. Says whether a line was refused.
+fn feed<K: Sink>(
+    lines: &mut Lines,
+    session: &mut Session,
+    sink: &mut K,
+    byte: u8,
+) -> Result<bool, Stop>
+    ensures bytes { AnswersBytes (byte ∷ []) (K.written sink.old) (K.written sink.new) result lines.old session.old.state lines.new session.new.state }
+    ensures cause { HasStopCause (K.faults sink.old) (K.faults sink.new) result }
+{
+    match lines.feed(byte) {
+        Fed::More => Ok(false),
+        Fed::Line | Fed::Long => answer_line(session, lines.line(), sink),
+    }
+}
+
+/// Answers the line that the end of the input ends. Says whether it was refused.
+fn finish<K: Sink>(lines: &mut Lines, session: &mut Session, sink: &mut K) -> Result<bool, Stop>
+    ensures end { AnswersEnd (K.written sink.old) (K.written sink.new) result lines.old session.old.state }
+    ensures cause { HasStopCause (K.faults sink.old) (K.faults sink.new) result }
+{
+    match lines.finish() {
+        Fed::More => Ok(false),
+        Fed::Line | Fed::Long => answer_line(session, lines.line(), sink),
+    }
+}
+
+/// Feeds some bytes, and answers the lines that they end. Says whether a line was refused.
+fn feed_all<K: Sink>(
+    lines: &mut Lines,
+    session: &mut Session,
+    sink: &mut K,
+    bytes: &[u8],
+) -> Result<bool, Stop>
+    ensures bytes { AnswersBytes bytes.now (K.written sink.old) (K.written sink.new) result lines.old session.old.state lines.new session.new.state }
+    ensures cause { HasStopCause (K.faults sink.old) (K.faults sink.new) result }
+{
+    let mut refused = false;
+    for byte in bytes {
+        match feed(lines, session, sink, *byte) {
+            Ok(some) => refused |= some,
+            Err(stop) => return Err(stop),
+        }
+    }
+    Ok(refused)
+}
+
+/// Reads a script to its end, or to what stops it first, and answers its lines as they are read.
+pub(crate) fn answer_script<S: Source, K: Sink>(
+    lines: &mut Lines,
+    session: &mut Session,
+    source: &mut S,
+    sink: &mut K,
+) -> Status
+    requires fresh { IsFresh lines.old }
+    requires begins { session.old.state ≡ empty_state }
+
+    ensures listed { result ≢ Usage }
+    ensures bytes { Runs (S.left source.old) (S.left source.new) (K.written sink.old) (K.written sink.new) result }
+    ensures too_long { S.given source.old < 2 ^ 63 → result ≡ TooLong → S.given source.old + script_limit < S.given source.new }
+    ensures within { S.given source.old < 2 ^ 63 → (result ≡ Done) ⊎ (result ≡ Refused) → S.given source.new ≤ S.given source.old + script_limit }
+    ensures read_fault { result ≡ ReadFault → HasRisen (S.faults source.old) (S.faults source.new) }
+    ensures write_fault { result ≡ WriteFault → HasRisen (K.faults sink.old) (K.faults sink.new) }
+    ensures source_faults { S.faults source.old ≤ S.faults source.new }
+    ensures sink_faults { K.faults sink.old ≤ K.faults sink.new }
+{
+    let mut buffer = [0; PIECE];
+    let mut room = SCRIPT_LIMIT;
+    let mut refused = false;
+    'pieces: loop {
+        let given = match source.read(&mut buffer) {
+            Ok(given) => given,
+            Err(Failed) => return Status::ReadFault,
+        };
+        if given == 0 {
+            return end_status(lines, session, sink, refused);
+        }
+        match feed_all(lines, session, sink, &buffer[..given.min(room)]) {
+            Ok(some) => refused |= some,
+            Err(stop) => return status_of(stop),
+        }
+        if given > room {
+            return Status::TooLong;
+        }
+        room -= given;
+    }
+}
+
+/// The status at the end of the input, where some line was refused before or none.
+fn end_status<K: Sink>(
+    lines: &mut Lines,
+    session: &mut Session,
+    sink: &mut K,
+    refused: bool,
+) -> Status
+    ensures end { EndsRun (K.written sink.old) (K.written sink.new) refused result lines.old session.old.state }
+    ensures kept { K.faults sink.old ≤ K.faults sink.new }
+    ensures write_fault { result ≡ WriteFault → HasRisen (K.faults sink.old) (K.faults sink.new) }
+{
+    match finish(lines, session, sink) {
+        Ok(some) => {
+            if refused || some {
+                Status::Refused
+            } else {
+                Status::Done
+            }
+        }
+        Err(stop) => status_of(stop),
+    }
+}
+
+/// The status of a run that stopped.
+fn status_of(stop: Stop) -> Status
+    ensures { result ≡ status_of stop }
+{
+    match stop {
+        Stop::WriteFault => Status::WriteFault,
+        Stop::NoMemory => Status::NoMemory,
+    }
+}

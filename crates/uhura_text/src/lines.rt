@@ -1,0 +1,181 @@
+//! Lines out of a stream of bytes, fed one byte after another.
+ghost use Rattle.std.specs.Prelude.{◌≡◌, ◌<◌, ◌≤◌, [], length, take, Some, IsSome, IfOk};
+ghost use Rattle.uhura_text.specs.Lines.{shown};
+ghost use Rattle.uhura_text.specs.Reading.{IsFresh, Ends, Feeds, Finishes};
+
+use std::alloc::{AllocError, Global};
+use std::marker::Model;
+
+/// A line of more bytes is long.
+const LINE_LIMIT: usize = 4096;
+
+/// What a byte did to the line that is being read.
+#[derive(Clone, Copy, Debug, PartialEq, Eq)]
+pub enum Fed {
+    /// It ended no line.
+    More,
+    /// It ended a line of at most 4,096 bytes.
+    Line,
+    /// It ended a line of more than 4,096 bytes.
+    Long,
+}
+
+/// A reader of lines. It keeps the first 4,097 bytes of the line that is being read.
+#[derive(Drop)]
+pub struct Lines {
+    buffer: Vec<u8>,
+    used: usize,
+    ended: Option<usize>,
+}
+
+impl Model for Lines {
+    ghost use Rattle.std.specs.Prelude.{◌≡◌, ◌≤◌, length, take, option_map, IfSome};
+    ghost use Rattle.uhura_text.specs.Reading.{Reading};
+
+    ghost Value = { Reading };
+
+    ghost view = { λ r. record { held = take r.used r.buffer.items; line = option_map (λ n. take n r.buffer.items) r.ended } };
+
+    ghost invariant = { λ r. (length r.buffer.items ≡ 4097) × (r.used ≤ 4097) × IfSome r.ended (λ n. n ≤ 4097) };
+}
+
+impl Lines {
+    /// Takes all the memory that it will ever need: 4,097 bytes.
+    pub fn new(alloc: Global) -> Result<Lines, AllocError>
+        ensures { IfOk result IsFresh }
+    {
+        let buffer = vec![in alloc; 0; LINE_LIMIT + 1]?;
+        Ok(Lines {
+            buffer,
+            used: 0,
+            ended: None,
+        })
+    }
+
+    /// Takes the next byte. Of a line of more than 4,096 bytes those past the first 4,097 are dropped.
+    pub fn feed(&mut self, byte: u8) -> Fed
+        ensures { Feeds self.old byte result self.new }
+    {
+        if byte == b'\n' {
+            return self.end();
+        }
+        self.ended = None;
+        if self.used <= LINE_LIMIT {
+            self.buffer[self.used] = byte;
+            self.used += 1;
+        }
+        Fed::More
+    }
+
+    /// Ends the line that is being read, at the end of the input.
+    pub fn finish(&mut self) -> Fed
+        ensures { Finishes self.old result self.new }
+    {
+        if self.used == 0 {
+            self.ended = None;
+            return Fed::More;
+        }
+        self.end()
+    }
+
+    /// The line that the last call of `feed` or `finish` ended: without its CR where it has at most 4,096 bytes,
+    /// else its first 4,097 bytes.
+    pub fn line(&self) -> &[u8]
+        requires { IsSome self.now.line }
+        ensures { self.now.line ≡ Some result.now }
+    {
+        match self.ended {
+            Some(used) => &self.buffer[..used],
+            None => unreachable!(),
+        }
+    }
+
+    /// Ends the line that is being read.
+    fn end(&mut self) -> Fed
+        ensures { Ends self.old result self.new }
+    {
+        let used = self.used;
+        self.used = 0;
+        self.ended = Some(shown_length(&self.buffer[..used]));
+        if used <= LINE_LIMIT {
+            Fed::Line
+        } else {
+            Fed::Long
+        }
+    }
+}
+
+/// How many of a held line's bytes are shown.
+fn shown_length(line: &[u8]) -> usize
+    requires { length line.now ≤ 4097 }
+    ensures bound { result ≤ length line.now }
+    ensures shown { take result line.now ≡ shown line.now }
+{
+    let length = line.len();
+    if length > LINE_LIMIT || length == 0 {
+        return length;
+    }
+    if line[length - 1] == b'\r' {
+        length - 1
+    } else {
+        length
+    }
+}
+
+#[cfg(test)]
+mod tests {
+    use super::*;
+
+    #[test]
+    fn a_text_is_cut_at_its_newlines(rt: HostRuntime) -> Result<(), AllocError> {
+        let mut lines = Lines::new(rt.alloc())?;
+        for (text, shown) in [
+            (&b"ab"[..], &b"ab"[..]),
+            (b"", b""),
+            (b"ab\r", b"ab"),
+            (b"a\rb\r\r", b"a\rb\r"),
+        ] {
+            for byte in text {
+                assert_eq!(rt; lines.feed(*byte), Fed::More);
+            }
+            match lines.feed(b'\n') {
+                Fed::Line | Fed::Long => assert!(rt; lines.line() == shown),
+                Fed::More => assert!(rt; false),
+            }
+        }
+        Ok(())
+    }
+
+    #[test]
+    fn a_line_is_long_past_its_limit(rt: HostRuntime) -> Result<(), AllocError> {
+        let mut lines = Lines::new(rt.alloc())?;
+        for (bytes, fed, shown) in [
+            (4096, Fed::Line, 4096),
+            (4097, Fed::Long, 4097),
+            (4098, Fed::Long, 4097),
+        ] {
+            for _ in 0..bytes {
+                assert_eq!(rt; lines.feed(b'a'), Fed::More);
+            }
+            let ended = lines.feed(b'\n');
+            assert_eq!(rt; ended, fed);
+            match ended {
+                Fed::Line | Fed::Long => assert_eq!(rt; lines.line().len(), shown),
+                Fed::More => assert!(rt; false),
+            }
+        }
+        Ok(())
+    }
+
+    #[test]
+    fn the_end_of_the_input_ends_an_unfinished_line(rt: HostRuntime) -> Result<(), AllocError> {
+        let mut lines = Lines::new(rt.alloc())?;
+        assert_eq!(rt; lines.finish(), Fed::More);
+        assert_eq!(rt; lines.feed(b'a'), Fed::More);
+        match lines.finish() {
+            Fed::Line | Fed::Long => assert!(rt; lines.line() == b"a".as_slice()),
+            Fed::More => assert!(rt; false),
+        }
+        Ok(())
+    }
+}
