@@ -1,7 +1,7 @@
 -- A guard is built literal by literal.
-use Rattle.std.proofs.Common.{◌≡◌, ◌≢◌, ℕ, ◌+◌, ◌<◌, ◌≤◌, Bool, true, false, List, [], ◌∷◌, ◌++◌, length, take, map, get_or, Option, None, Some, is_some, option_map, slice_get, position, bytes_eq, All, AllPairs, Contains, IsSomeAnd, eqb, refl, sym, ap, subst, ◌∙◌, true≢false, arith, length-take-le}
-use Rattle.std.specs.List.{list_any, Any, enumerate_from}
-use Rattle.std.proofs.lemmas.List.{length-map, map_push, map_more, get_or-map, get_or-take, length_push, take_more}
+use Rattle.std.proofs.Common.{◌≡◌, ◌≢◌, ℕ, ◌+◌, ◌<◌, ◌≤◌, Bool, true, false, List, [], ◌∷◌, ◌++◌, length, take, map, get_or, Option, None, Some, is_some, slice_get, bytes_eq, All, IsSomeAnd, eqb, refl, sym, ap, subst, ◌∙◌, true≢false, arith, length-take-le}
+use Rattle.std.specs.List.{list_any, enumerate_from}
+use Rattle.std.proofs.lemmas.List.{length-map, map_push, map_more, get_or-map}
 use Rattle.std.proofs.lemmas.List.FromFn.{length-enumerate_from}
 use Rattle.std.proofs.lemmas.List.Elements.{All-push}
 use Rattle.std.proofs.lemmas.List.Folds.{Any-from_list_any}
@@ -15,7 +15,7 @@ use Rattle.uhura_plan.specs.declared.guard.Literal.{Literal}
 use Rattle.uhura_plan.specs.declared.choice.Choice.{Choice}
 use Rattle.uhura_plan.specs.Lists.{Lists, choice_names}
 use Rattle.uhura_plan.specs.Guard.{no_literal}
-use Rattle.uhura_plan.specs.Find.{choice_named, literal_named}
+use Rattle.uhura_plan.specs.Find.{literal_named}
 use Rattle.uhura_plan.specs.Sound.{IsLiteralAmong, IsGuardAmong}
 use Rattle.uhura_plan.specs.Edits.{repeated_at, repeated_in}
 use Rattle.uhura_plan.proofs.Positions.{none_passes, any_passes_at}
@@ -54,10 +54,13 @@ differ x y other = by (eqb x y) refl
 -- a guard has at most one literal for each choice
 pub few_literals : (choices : List Choice) (guard : List Literal) → IsGuardAmong choices guard → length guard ≤ length choices
 few_literals choices guard sound =
-    omega (arith, length-map guard (λ l. l.choice),
+    omega (
+      arith,
+      length-map guard (λ l. l.choice),
       length-le_from_distinct_below (map (λ l. l.choice) guard) (length choices)
-        (IsDistinct-from_apart eqb (map (λ l. l.choice) guard) apart)
-        below)
+          (IsDistinct-from_apart eqb (map (λ l. l.choice) guard) apart)
+          below,
+    )
   where
     apart : (i j d : ℕ) → i < j → j < length (map (λ l. l.choice) guard) → eqb (get_or (map (λ l. l.choice) guard) i d) (get_or (map (λ l. l.choice) guard) j d) ≡ false
     apart i j d before within =
@@ -65,12 +68,13 @@ few_literals choices guard sound =
         let first = get_or-map (λ (l : Literal). l.choice) guard i no_literal d (omega (arith, before, inside)) in
         let second = get_or-map (λ (l : Literal). l.choice) guard j no_literal d inside in
         differ _ _ (λ same. sound.once i j no_literal before inside (sym first ∙ (same ∙ second)))
+
     below : (q : ℕ) → list_any (eqb q) (map (λ l. l.choice) guard) ≡ true → q < length choices
     below q any =
         let found = Any-from_list_any (eqb q) (map (λ l. l.choice) guard) any in
         let inside : found.0 < length guard = omega (arith, found.2, length-map guard (λ l. l.choice)) in
         let is : q ≡ (get_or guard found.0 no_literal).choice =
-              (Decides-eqb q found.1).0 found.4 ∙ (sym found.3 ∙ get_or-map (λ (l : Literal). l.choice) guard found.0 no_literal found.1 inside) in
+        (Decides-eqb q found.1).0 found.4 ∙ (sym found.3 ∙ get_or-map (λ (l : Literal). l.choice) guard found.0 no_literal found.1 inside) in
         subst (λ n. n < length choices) (sym is) (choice_within choices _ (sound.among found.0 no_literal inside))
 
 -- where no choice is named twice, a name stands at one place
@@ -79,6 +83,7 @@ not_repeated guard i once within = by (repeats names i) refl
   where
     names : List (List ℕ)
     names = map (λ literal. literal.0) guard
+
     by : (b : Bool) → repeats names i ≡ b → repeats names i ≡ false
     by true again =
         let inside : i < length names = omega (arith, within, length-map guard (λ literal. literal.0)) in
@@ -90,7 +95,7 @@ not_repeated guard i once within = by (repeats names i) refl
 built_at : (plan : Lists) (names : List (List ℕ × List ℕ)) (guard : List Literal) (k : ℕ) (d : Literal) (e : List ℕ × List ℕ) → IsBuilt plan names guard → k < length guard → Some (get_or guard k d) ≡ literal_named plan (get_or names k e)
 built_at plan names guard k d e built within =
     let same_length : length guard ≡ length names =
-          sym (length-map guard (λ literal. Some literal)) ∙ (ap length built.found ∙ length-map names (literal_named plan)) in
+    sym (length-map guard (λ literal. Some literal)) ∙ (ap length built.found ∙ length-map names (literal_named plan)) in
     sym (get_or-map (λ literal. Some literal) guard k d None within)
     ∙ (ap (λ xs. get_or xs k None) built.found
     ∙ get_or-map (literal_named plan) names k e None (omega (arith, within, same_length)))
@@ -101,7 +106,7 @@ pub next_new : (plan : Lists) (names : List (List ℕ × List ℕ)) (i : ℕ) (g
     → All (λ l. l.choice ≢ literal.choice) guard
 next_new plan names i guard next literal built within is once named = λ k d inside same.
     let as_long : length guard ≡ i =
-          sym (length-map guard (λ literal. Some literal)) ∙ (ap length built.found ∙ (length-map (take i names) (literal_named plan) ∙ length-take-le i names (omega (arith, within)))) in
+    sym (length-map guard (λ literal. Some literal)) ∙ (ap length built.found ∙ (length-map (take i names) (literal_named plan) ∙ length-take-le i names (omega (arith, within)))) in
     let earlier = get_or (take i names) k next in
     let first = (spelled plan earlier (get_or guard k d) (built_at plan (take i names) guard k d next built inside)).choice in
     let second = (spelled plan next literal named).choice in

@@ -46,7 +46,7 @@ module _ (plan : Lists) (name : List ℕ) (sound : IsSound plan) (new : IsNoEven
     events = IsDistinct-push nat_list_eq_equiv plan.events name sound.distinct.events (none_passes (bytes_eq name) plan.events new.no_controllable);
     ends = sound.distinct.ends;
     apart = λ k d within contained.
-      ⊎_elim
+        ⊎_elim
         (λ old. sound.distinct.apart k d within old)
         (λ same. not_contained (end_names plan.uncertains) name new.no_end (subst (Contains (end_names plan.uncertains)) (sym same) (Contains-get_or (end_names plan.uncertains) k d within)))
         (Contains-push_cases plan.events name _ contained);

@@ -1,5 +1,5 @@
 -- A guard's array with one more literal.
-use Rattle.std.proofs.Common.{◌≡◌, ℕ, ◌+◌, ◌-◌, ◌<◌, List, length, drop, set, replicate, arith, ap, sym, ◌∙◌}
+use Rattle.std.proofs.Common.{ℕ, ◌+◌, ◌-◌, ◌<◌, List, drop, set, replicate, arith, ap, sym, ◌∙◌}
 use Rattle.std.proofs.lemmas.List.{drop-drop, drop-set-lt, drop-replicate}
 use Rattle.std.proofs.lemmas.Grind.{common_steps}
 use Rattle.uhura_plan.specs.declared.guard.Literal.{Literal}

@@ -1,7 +1,7 @@
 -- Which names of a guard's literals are known, and which choice is named twice.
-use Rattle.std.proofs.Common.{◌≡◌, ℕ, ◌+◌, ◌*◌, ◌<◌, ◌≤◌, min, Bool, true, false, cond, not, ◌||◌, List, [], ◌∷◌, ◌++◌, length, take, drop, get_or, Option, None, Some, is_some, position, option_map, option_and_then, refl, sym, ap, ◌∙◌, arith, append_assoc, length-append, take-append-drop, length-take-le}
+use Rattle.std.proofs.Common.{◌≡◌, ℕ, ◌+◌, ◌*◌, ◌<◌, ◌≤◌, Bool, true, false, not, ◌||◌, List, [], ◌∷◌, ◌++◌, length, take, drop, get_or, Option, None, Some, is_some, position, option_map, option_and_then, refl, sym, ap, ◌∙◌, arith, append_assoc, length-append, take-append-drop, length-take-le}
 use Rattle.std.specs.List.{list_any, position_or_len}
-use Rattle.std.proofs.lemmas.Grind.{common_steps, flat_map-append}
+use Rattle.std.proofs.lemmas.Grind.{flat_map-append}
 use Rattle.std.proofs.lemmas.List.{drop_more, take_all, length_push}
 use Rattle.std.proofs.lemmas.List.Folds.{list_any-append}
 use Rattle.std.proofs.lemmas.Bool.Decides.{nat_tests}
@@ -74,7 +74,7 @@ module _ (plan : Lists) (before i : ℕ) (guard : List (List ℕ × List ℕ)) (
   pub unknown_choice : (which : ℕ) → which ≡ carried (before + 2 * i) → is_some (choice_named plan names.0) ≡ false → Some (Unknown which) ≡ unknown_in plan before guard
   unknown_choice which counted absent =
       let first : position not (known_names plan guard) ≡ Some (2 * i) =
-            ap (position not) tests_cut ∙ (position_behind not _ _ _ known (ap not absent) ∙ ap (λ n. Some n) length-tests) in
+      ap (position not) tests_cut ∙ (position_behind not _ _ _ known (ap not absent) ∙ ap (λ n. Some n) length-tests) in
       ap (λ w. Some (Unknown w)) counted ∙ sym (ap (option_map (λ at. Unknown (carried (before + at)))) first)
 
   -- the refusal of an alternative that the choice hasn't
@@ -83,11 +83,11 @@ module _ (plan : Lists) (before i : ℕ) (guard : List (List ℕ × List ℕ)) (
       let tests = known_names plan (take i guard) in
       let rest = known_names plan (drop (i + 1) guard) in
       let passed : list_any not (tests ++ is_some (choice_named plan names.0) ∷ []) ≡ false =
-            list_any-append not tests (is_some (choice_named plan names.0) ∷ []) ∙ rw (known, there) refl in
+      list_any-append not tests (is_some (choice_named plan names.0) ∷ []) ∙ rw (known, there) refl in
       let cut : known_names plan guard ≡ (tests ++ is_some (choice_named plan names.0) ∷ []) ++ is_some (literal_named plan names) ∷ rest =
-            tests_cut ∙ sym (append_assoc tests (is_some (choice_named plan names.0) ∷ []) (is_some (literal_named plan names) ∷ rest)) in
+      tests_cut ∙ sym (append_assoc tests (is_some (choice_named plan names.0) ∷ []) (is_some (literal_named plan names) ∷ rest)) in
       let first : position not (known_names plan guard) ≡ Some (2 * i + 1) =
-            ap (position not) cut ∙ (position_behind not _ _ _ passed (ap not absent) ∙ ap (λ n. Some n) (length_push tests (is_some (choice_named plan names.0)) ∙ ap (λ n. n + 1) length-tests)) in
+      ap (position not) cut ∙ (position_behind not _ _ _ passed (ap not absent) ∙ ap (λ n. Some n) (length_push tests (is_some (choice_named plan names.0)) ∙ ap (λ n. n + 1) length-tests)) in
       let number : next ≡ carried (before + (2 * i + 1)) = omega (arith, after, counted) in
       ap (λ w. Some (Unknown w)) number ∙ sym (ap (option_map (λ at. Unknown (carried (before + at)))) first)
 

@@ -1,6 +1,6 @@
 -- What holds where a requirement isn't refused.
-use Rattle.std.proofs.Common.{◌≡◌, ℕ, ◌+◌, ◌<◌, ◌≤ℤ◌, ℤ, Bool, true, false, not, ◌||◌, List, [], ◌∷◌, length, map, get_or, zero, suc, take, Option, None, Some, is_some, is_none, position, option_map, int_lt, nat_le, bytes_eq, refl, sym, ap, ◌∙◌, true≢false, arith}
-use Rattle.std.specs.List.{list_any, enumerate_from}
+use Rattle.std.proofs.Common.{◌≡◌, ℕ, ◌<◌, ◌≤ℤ◌, ℤ, Bool, true, false, not, List, [], ◌∷◌, length, get_or, zero, suc, Option, None, Some, is_some, is_none, position, option_map, int_lt, nat_le, bytes_eq, refl, sym, ap, arith}
+use Rattle.std.specs.List.{list_any}
 use Rattle.std.proofs.lemmas.Bool.Decides.{nat_tests}
 use Rattle.std.proofs.lemmas.Int.{ints}
 use Rattle.uhura_plan.specs.declared.requirement.Bounded.{Bounded}
@@ -9,7 +9,7 @@ use Rattle.uhura_plan.specs.declared.refusal.EditRefusal.TheVariants.{Taken, Unk
 use Rattle.uhura_plan.specs.Lists.{Lists}
 use Rattle.uhura_plan.specs.Find.{find_event, requirement_named, literal_named}
 use Rattle.uhura_plan.specs.Limits.{AreOrdered}
-use Rattle.uhura_plan.specs.Edits.{refuse_if, first_of, known_names, unknown_in, repeated_at, repeated_in, empty_between, requirement_refusal}
+use Rattle.uhura_plan.specs.Edits.{refuse_if, first_of, known_names, unknown_in, repeated_in, empty_between, requirement_refusal}
 use Rattle.uhura_plan.proofs.Positions.{none_passes}
 use Rattle.uhura_plan.proofs.Literals.{or_false}
 
@@ -42,7 +42,7 @@ pub unrefused : (plan : Lists) (name from to : List ℕ) (lower upper : Bounded)
     → Passes (is_some (requirement_named plan name)) (is_none (find_event plan from)) (is_none (find_event plan to)) (unknown_in plan 3 guard) (bytes_eq from to) (empty_between lower.bound upper.bound) (repeated_in guard) (nat_le 2048 (length plan.requirements))
 unrefused plan name from to lower upper guard none =
     passes (is_some (requirement_named plan name)) (is_none (find_event plan from)) (is_none (find_event plan to)) (unknown_in plan 3 guard) (bytes_eq from to) (empty_between lower.bound upper.bound) (repeated_in guard) (nat_le 2048 (length plan.requirements))
-      Taken (Unknown 1) (Unknown 2) Kind (Full 2048 (length plan.requirements)) none
+    Taken (Unknown 1) (Unknown 2) Kind (Full 2048 (length plan.requirements)) none
 
 -- bounds that aren't refused are in order
 pub bounds_ordered : (lower upper : Option ℤ) → empty_between lower upper ≡ None → AreOrdered lower upper

@@ -1,12 +1,11 @@
 -- Which choice of a guard is named twice.
-use Rattle.std.proofs.Common.{◌≡◌, ℕ, ◌+◌, ◌<◌, ◌≤◌, Bool, true, false, cond, List, [], ◌∷◌, length, take, map, get_or, Option, None, Some, position, option_map, bytes_eq, nat_lt, refl, sym, ap, subst, ◌∙◌, arith, zero-add}
+use Rattle.std.proofs.Common.{◌≡◌, ℕ, ◌<◌, ◌≤◌, Bool, true, false, List, [], ◌∷◌, length, take, map, get_or, None, Some, bytes_eq, refl, sym, ap, ◌∙◌, arith, zero-add}
 use Rattle.std.specs.List.{list_any, enumerate_from, position_or_len}
 use Rattle.std.proofs.lemmas.Bool.Decides.{nat_tests}
-use Rattle.std.proofs.lemmas.List.{length-map, get_or-map, take-map}
+use Rattle.std.proofs.lemmas.List.{get_or-map, take-map}
 use Rattle.std.proofs.lemmas.List.FromFn.{get_or-enumerate_from, length-enumerate_from}
 use Rattle.std.proofs.lemmas.List.Sums.{position_or_len_is}
-use Rattle.uhura_plan.specs.declared.refusal.EditRefusal.TheVariants.{Guard}
-use Rattle.uhura_plan.specs.Edits.{repeated_at, repeated_in, carried}
+use Rattle.uhura_plan.specs.Edits.{repeated_at}
 
 -- whether the name at a place stands before it too
 abbrev pub repeats : List (List ℕ) → ℕ → Bool
@@ -24,8 +23,8 @@ is_repeat-at names i within = ap (is_repeat names) (get_or-enumerate_from 0 name
 stops : (names : List (List ℕ)) (i : ℕ) → i ≤ length names → ((k : ℕ) → k < i → repeats names k ≡ false) → (i < length names → repeats names i ≡ true) → position_or_len (is_repeat names) (enumerate_from 0 names) ≡ i
 stops names i within none at =
     position_or_len_is (is_repeat names) (enumerate_from 0 names) i (0, []) (omega (arith, length-enumerate_from 0 names, within))
-      (λ k below. is_repeat-at names k (omega (arith, below, within)) ∙ none k below)
-      (λ inside. let there : i < length names = omega (arith, length-enumerate_from 0 names, inside) in is_repeat-at names i there ∙ at there)
+    (λ k below. is_repeat-at names k (omega (arith, below, within)) ∙ none k below)
+    (λ inside. let there : i < length names = omega (arith, length-enumerate_from 0 names, inside) in is_repeat-at names i there ∙ at there)
 
 -- the first repeat is found
 pub repeated_at-first : (names : List (List ℕ)) (i : ℕ) → i < length names → ((k : ℕ) → k < i → repeats names k ≡ false) → repeats names i ≡ true → repeated_at names ≡ Some i
@@ -38,7 +37,7 @@ repeated_at-first names i within none at =
 pub repeated_at-none : (names : List (List ℕ)) → ((k : ℕ) → k < length names → repeats names k ≡ false) → repeated_at names ≡ None
 repeated_at-none names none =
     let found : position_or_len (is_repeat names) (enumerate_from 0 names) ≡ length names =
-          stops names (length names) (omega arith) none (λ inside. absurd (omega (arith, inside))) in
+    stops names (length names) (omega arith) none (λ inside. absurd (omega (arith, inside))) in
     let all : length (enumerate_from 0 names) ≡ length names = length-enumerate_from 0 names in
     rw found (grind (arith, nat_tests))
 

@@ -1,5 +1,5 @@
 -- A plan with one more requirement is sound.
-use Rattle.std.proofs.Common.{◌≡◌, ◌≢◌, ℕ, ◌<◌, true, false, List, [], ◌∷◌, ◌++◌, length, get_or, Option, None, Some, is_some, Contains, bytes_eq, refl, sym, ap, subst, ◌∙◌, true≢false, arith}
+use Rattle.std.proofs.Common.{◌≡◌, ◌≢◌, ℕ, ◌<◌, false, List, [], ◌∷◌, ◌++◌, length, get_or, None, Some, is_some, Contains, bytes_eq, refl, sym, ap, subst, ◌∙◌, true≢false, arith}
 use Rattle.std.specs.List.{list_any}
 use Rattle.std.specs.Map.{keys_of, values_of}
 use Rattle.std.specs.Cmp.Lexicographic.{nat_list_eq_equiv}
@@ -36,7 +36,7 @@ module _ (plan : Lists) (name from to : List ℕ) (lower upper : Bounded) (guard
   HasDistinctNames-with_requirement : HasDistinctNames (with_requirement plan made)
   HasDistinctNames-with_requirement =
       let free : is_some (requirement_named plan made.name) ≡ false =
-            ap (λ n. is_some (requirement_named plan n)) stated.same_name ∙ (unrefused plan name from to lower upper guard none).not_taken in
+      ap (λ n. is_some (requirement_named plan n)) stated.same_name ∙ (unrefused plan name from to lower upper guard none).not_taken in
       record {
         events = sound.distinct.events;
         ends = sound.distinct.ends;
@@ -44,15 +44,15 @@ module _ (plan : Lists) (name from to : List ℕ) (lower upper : Bounded) (guard
         uncertains = sound.distinct.uncertains;
         choices = sound.distinct.choices;
         requirements =
-          subst AreDistinct (sym (map_push (λ r. r.name) plan.requirements made))
+            subst AreDistinct (sym (map_push (λ r. r.name) plan.requirements made))
             (IsDistinct-push nat_list_eq_equiv (requirement_names plan.requirements) made.name sound.distinct.requirements
-              (none_passes (bytes_eq made.name) (requirement_names plan.requirements) free));
+            (none_passes (bytes_eq made.name) (requirement_names plan.requirements) free));
         slots = λ i j d before within.
-          (let Differ : List ℕ → Type 0 = λ ss. (i j d : ℕ) → i < j → j < length ss → get_or ss i d ≢ get_or ss j d in
-          subst Differ (sym (map_push (λ r. r.slot) plan.requirements made))
+            (let Differ : List ℕ → Type 0 = λ ss. (i j d : ℕ) → i < j → j < length ss → get_or ss i d ≢ get_or ss j d in
+            subst Differ (sym (map_push (λ r. r.slot) plan.requirements made))
             (all_pairs_push ◌≢◌ (slots plan.requirements) made.slot sound.distinct.slots
-              (λ k d within same. stated.least_slot.free (subst (Contains (slots plan.requirements)) same (Contains-get_or (slots plan.requirements) k d within)))))
-          i j d before within;
+            (λ k d within same. stated.least_slot.free (subst (Contains (slots plan.requirements)) same (Contains-get_or (slots plan.requirements) k d within)))))
+            i j d before within;
       }
 
   -- an earlier requirement stays sound
@@ -78,13 +78,13 @@ module _ (plan : Lists) (name from to : List ℕ) (lower upper : Bounded) (guard
       from = event_among plan from made.from stated.found_from;
       to = event_among plan to made.to stated.found_to;
       two_events = λ same.
-        true≢false
+          true≢false
           (sym ((bytes_eq-Decides from to).1 (same_event plan from to made.from stated.found_from (ap (λ e. Some e) same ∙ stated.found_to)))
           ∙ (unrefused plan name from to lower upper guard none).two_events);
       lower = subst AreWithinLimits (sym stated.same_lower) within_lower;
       upper = subst AreWithinLimits (sym stated.same_upper) within_upper;
       ordered = ordered_along lower upper made.lower made.upper stated.same_lower stated.same_upper
-        (bounds_ordered lower.bound upper.bound (unrefused plan name from to lower upper guard none).not_empty);
+          (bounds_ordered lower.bound upper.bound (unrefused plan name from to lower upper guard none).not_empty);
       guard = among;
     }
 
@@ -105,7 +105,7 @@ module _ (plan : Lists) (name from to : List ℕ) (lower upper : Bounded) (guard
           uncertains = sound.uncertains;
           choices = sound.choices;
           requirements =
-            All-push (IsSoundRequirement (with_requirement plan made)) plan.requirements made
+              All-push (IsSoundRequirement (with_requirement plan made)) plan.requirements made
               (All-weaker _ _ IsSoundRequirement-earlier plan.requirements sound.requirements) IsSoundRequirement-made;
         }
 
@@ -124,9 +124,9 @@ module _ (events : List (List ℕ)) (uncertains : List (List ℕ × Uncertain)) 
   entries_added : inserted ≡ entries ++ (name, made) ∷ []
   entries_added =
       let free : is_some (place_of (requirement_names (values_of entries)) name) ≡ false =
-            ap (λ p. is_some (requirement_named p name)) view ∙ (unrefused plan name from to lower upper guard none).not_taken in
+      ap (λ p. is_some (requirement_named p name)) view ∙ (unrefused plan name from to lower upper guard none).not_taken in
       let new : list_any (bytes_eq name) (keys_of entries) ≡ false =
-            ap (list_any (bytes_eq name)) held.requirement_keys ∙ none_passes (bytes_eq name) (requirement_names (values_of entries)) free in
+      ap (list_any (bytes_eq name)) held.requirement_keys ∙ none_passes (bytes_eq name) (requirement_names (values_of entries)) free in
       is ∙ insert_new entries name made new
 
   -- so does the requirement
@@ -156,5 +156,5 @@ module _ (events : List (List ℕ)) (uncertains : List (List ℕ × Uncertain)) 
     choice_keys = held.choice_keys;
     requirement_keys = keys_added;
     sound = subst IsSound (sym view-with_requirement)
-      (IsSound-with_requirement plan name from to lower upper guard made (subst IsSound view held.sound) none stated named within_lower within_upper among below);
+        (IsSound-with_requirement plan name from to lower upper guard made (subst IsSound view held.sound) none stated named within_lower within_upper among below);
   }

@@ -1,6 +1,5 @@
 -- The first slot that isn't marked is the least free one.
-use Rattle.std.proofs.Common.{◌≡◌, ◌≢◌, ℕ, zero, suc, ◌+◌, ◌<◌, ◌≤◌, Bool, true, false, not, List, [], ◌∷◌, ◌++◌, length, take, set, map, get_or, replicate, All, Option, None, Some, IsSome, is_some, position, Contains, eqb, refl, sym, ap, subst, ◌∙◌, true≢false, arith, length-set, get_or-set_same, get_or-set_other, ⊎_elim}
-use Rattle.std.specs.List.{list_any}
+use Rattle.std.proofs.Common.{◌≡◌, ◌≢◌, ℕ, zero, suc, ◌+◌, ◌<◌, ◌≤◌, Bool, true, false, not, List, [], ◌∷◌, ◌++◌, length, take, set, get_or, replicate, All, Option, None, Some, IsSome, is_some, position, Contains, eqb, refl, sym, ap, subst, ◌∙◌, true≢false, arith, length-set, get_or-set_same, get_or-set_other, ⊎_elim}
 use Rattle.std.specs.Cmp.{nat_eq_equiv}
 use Rattle.std.proofs.lemmas.Bool.Decides.{Decides-eqb}
 use Rattle.std.proofs.lemmas.Grind.{common_steps}
@@ -53,7 +52,7 @@ marks_more requirements used added marks below =
     record {
       capacity = length-set used added.slot true ∙ marks.capacity;
       marked = λ slot contained.
-        ⊎_elim
+          ⊎_elim
           (λ old. mark_kept used added.slot slot within (marks.marked slot old))
           (λ same. subst (λ s. get_or (set used added.slot true) s false ≡ true) same (get_or-set_same used added.slot true false within))
           (Contains-push_cases (slots requirements) added.slot slot (subst (λ l. Contains l slot) more contained));
@@ -64,8 +63,8 @@ marks_more requirements used added marks below =
 pub marks_next : (requirements : List Requirement) (used : List Bool) (i : ℕ) (next : Requirement) → i < length requirements → next ≡ get_or requirements i next → All (λ r. r.slot < 2048) requirements → MarksSlots (take i requirements) used → MarksSlots (take (i + 1) requirements) (set used next.slot true)
 marks_next requirements used i next within is below marks =
     subst (λ rs. MarksSlots rs (set used next.slot true))
-      (ap (λ r. take i requirements ++ r ∷ []) is ∙ sym (take_more requirements i next within))
-      (marks_more (take i requirements) used next marks (subst (λ r. r.slot < 2048) (sym is) (below i next within)))
+    (ap (λ r. take i requirements ++ r ∷ []) is ∙ sym (take_more requirements i next within))
+    (marks_more (take i requirements) used next marks (subst (λ r. r.slot < 2048) (sym is) (below i next within)))
 
 -- where no place is without a mark, each has one
 all_marked : (used : List Bool) (slot : ℕ) → slot < length used → position not used ≡ None → get_or used slot false ≡ true
@@ -83,8 +82,8 @@ unmarked requirements used marks few = by (position not used) refl
     by (Some slot) found = ap is_some found
     by None none =
         let many : 2048 ≤ length (slots requirements) =
-              le-length_from_below (slots requirements) 2048 (λ q below.
-                list_any-from_Contains nat_eq_equiv q (slots requirements) (marks.only q (all_marked used q (omega (arith, marks.capacity, below)) none))) in
+        le-length_from_below (slots requirements) 2048 (λ q below.
+        list_any-from_Contains nat_eq_equiv q (slots requirements) (marks.only q (all_marked used q (omega (arith, marks.capacity, below)) none))) in
         absurd (omega (arith, many, few, length-map requirements (λ r. r.slot)))
 
 -- the first slot that isn't marked is the least free one

@@ -1,8 +1,6 @@
 -- What an edit of a plan refuses, and what it makes.
-use Rattle.std.specs.Prelude.{◌≡◌, ◌≢◌, ℕ, ◌+◌, ◌<◌, ◌≤◌, min, nat_le, Bool, not, true, false, if◌then◌else◌, int_lt, ℤ, List, [], ◌∷◌, ◌++◌, length, take, map, Option, Some, None, Result, Ok, Err, is_some, is_none, position, option_map, bytes_eq, Contains, alloc_error, ⊤}
+use Rattle.std.specs.Prelude.{◌≡◌, ℕ, ◌+◌, ◌<◌, min, nat_le, Bool, not, if◌then◌else◌, int_lt, ℤ, List, [], ◌∷◌, ◌++◌, length, take, map, Option, Some, None, Result, Ok, Err, is_some, is_none, position, option_map, bytes_eq, Contains, alloc_error, ⊤}
 use Rattle.std.specs.List.{list_any, enumerate_from, flat_map}
-use Rattle.uhura_plan.specs.declared.key.EventRef.{EventRef}
-use Rattle.uhura_plan.specs.declared.guard.Literal.{Literal}
 use Rattle.uhura_plan.specs.declared.requirement.Bounded.{Bounded}
 use Rattle.uhura_plan.specs.declared.requirement.Requirement.{Requirement}
 use Rattle.uhura_plan.specs.declared.refusal.EditRefusal.{EditRefusal}

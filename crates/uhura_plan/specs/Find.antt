@@ -1,5 +1,5 @@
 -- Where a plan has the thing of a name.
-use Rattle.std.specs.Prelude.{ℕ, ◌==◌, List, Option, Some, position, find, bytes_eq, slice_get, option_map, option_and_then}
+use Rattle.std.specs.Prelude.{ℕ, ◌==◌, List, Option, position, find, bytes_eq, slice_get, option_map, option_and_then}
 use Rattle.std.specs.Option.{option_or}
 use Rattle.uhura_plan.specs.declared.key.EventRef.{EventRef}
 use Rattle.uhura_plan.specs.declared.key.EventRef.TheVariants.{Controllable, End}

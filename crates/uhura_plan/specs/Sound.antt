@@ -1,5 +1,5 @@
 -- What a plan always keeps.
-use Rattle.std.specs.Prelude.{◌≡◌, ◌≢◌, ℕ, ◌+◌, ◌*◌, ◌<◌, ◌≤◌, pos, ◌≤ℤ◌, List, length, take, map, fold, slice_get, Some, IfSome, IsSomeAnd, All, AllPairs, Contains, IsTrue, bytes_eq}
+use Rattle.std.specs.Prelude.{◌≡◌, ◌≢◌, ℕ, ◌+◌, ◌*◌, ◌<◌, ◌≤◌, pos, ◌≤ℤ◌, List, length, take, fold, slice_get, Some, IfSome, IsSomeAnd, All, AllPairs, Contains, IsTrue, bytes_eq}
 use Rattle.std.specs.List.{IsDistinct}
 use Rattle.uhura_plan.specs.declared.key.EventRef.{EventRef}
 use Rattle.uhura_plan.specs.declared.key.EventRef.TheVariants.{Controllable, End}

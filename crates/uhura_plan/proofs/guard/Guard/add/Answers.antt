@@ -7,5 +7,5 @@ use Rattle.uhura_plan.proofs.guard.Guard.add.Goals as goal
 pub invariant_of-self : goal.invariant_of-self
 invariant_of-self c =
     let counted : length c.args.self.now ≡ c.self.inside.len =
-        ap length (sym c.self.view_is) ∙ length-guard c.self.inside.literals c.self.inside.len c.self.invariant in
+    ap length (sym c.self.view_is) ∙ length-guard c.self.inside.literals c.self.inside.len c.self.invariant in
     holds_added _ _ c.args.literal c.self.invariant (omega (arith, counted, c.requires.room))

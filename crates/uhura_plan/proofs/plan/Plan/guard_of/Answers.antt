@@ -1,8 +1,8 @@
 -- Each pair of names spells a literal on a choice of its own, so there are no more literals than choices.
-use Rattle.std.proofs.Common.{◌≡◌, ◌∷◌, ◌++◌, [], Some, is_some, length, subst, sym, ap, ◌∙◌, arith}
+use Rattle.std.proofs.Common.{◌∷◌, ◌++◌, [], is_some, length, sym, ap, ◌∙◌, arith}
 use Rattle.std.proofs.lemmas.List.{length_push}
 use Rattle.uhura_plan.specs.Find.{literal_named}
-use Rattle.uhura_plan.proofs.Building.{IsBuilt, built_none, next_new, built_next, few_literals}
+use Rattle.uhura_plan.proofs.Building.{built_none, next_new, built_next, few_literals}
 use Rattle.uhura_plan.proofs.Refusals.{literal_known}
 use Rattle.uhura_plan.proofs.plan.Plan.guard_of.Goals as goal
 
@@ -17,18 +17,23 @@ unwrap-literal-requires c =
 pub add-requires-clause-room : goal.add-requires-clause-room
 add-requires-clause-room c =
     let built =
-          built_next c.args.self.now c.args.names.now c.loop-choice.choice-index c.loop-choice.guard c.loop-choice-item.result c.unwrap-literal.result
-            c.loop-choice.invariant c.loop-choice-test.true c.loop-choice-item.is c.requires.once (sym c.unwrap-literal.ensures ∙ c.literal.ensures) in
-    omega (arith, few_literals c.args.self.now.choices (c.loop-choice.guard ++ c.unwrap-literal.result ∷ []) built.among,
-      length_push c.loop-choice.guard c.unwrap-literal.result, c.self.invariant.sound.counts.choices, ap (λ p. length p.choices) c.self.view_is)
+    built_next c.args.self.now c.args.names.now c.loop-choice.choice-index c.loop-choice.guard c.loop-choice-item.result c.unwrap-literal.result
+    c.loop-choice.invariant c.loop-choice-test.true c.loop-choice-item.is c.requires.once (sym c.unwrap-literal.ensures ∙ c.literal.ensures) in
+    omega (
+      arith,
+      few_literals c.args.self.now.choices (c.loop-choice.guard ++ c.unwrap-literal.result ∷ []) built.among,
+      length_push c.loop-choice.guard c.unwrap-literal.result,
+      c.self.invariant.sound.counts.choices,
+      ap (λ p. length p.choices) c.self.view_is,
+    )
 
 pub add-requires-clause-new : goal.add-requires-clause-new
 add-requires-clause-new c =
     next_new c.args.self.now c.args.names.now c.loop-choice.choice-index c.loop-choice.guard c.loop-choice-item.result c.unwrap-literal.result
-      c.loop-choice.invariant c.loop-choice-test.true c.loop-choice-item.is c.requires.once (sym c.unwrap-literal.ensures ∙ c.literal.ensures)
+    c.loop-choice.invariant c.loop-choice-test.true c.loop-choice-item.is c.requires.once (sym c.unwrap-literal.ensures ∙ c.literal.ensures)
 
 pub loop-choice-preserved : goal.loop-choice-preserved
 loop-choice-preserved c =
     rw c.add.ensures
-      (built_next c.args.self.now c.args.names.now c.loop-choice.choice-index c.loop-choice.guard c.loop-choice-item.result c.unwrap-literal.result
-        c.loop-choice.invariant c.loop-choice-test.true c.loop-choice-item.is c.requires.once (sym c.unwrap-literal.ensures ∙ c.literal.ensures))
+    (built_next c.args.self.now c.args.names.now c.loop-choice.choice-index c.loop-choice.guard c.loop-choice-item.result c.unwrap-literal.result
+    c.loop-choice.invariant c.loop-choice-test.true c.loop-choice-item.is c.requires.once (sym c.unwrap-literal.ensures ∙ c.literal.ensures))

@@ -6,16 +6,16 @@ use Rattle.uhura_plan.proofs.plan.Plan.unknown_in.Goals as goal
 pub returns-in_default : goal.returns-in_default
 returns-in_default c =
     unknown_choice c.args.self.now c.args.before c.loop-choice.choice-index c.args.guard.now c.loop-choice-item.result
-      c.loop-choice-test.true c.loop-choice-item.is c.loop-choice.invariant.1
-      c.loop-choice.which c.loop-choice.invariant.0 (ap is_some (sym c.in_default.ensures))
+    c.loop-choice-test.true c.loop-choice-item.is c.loop-choice.invariant.1
+    c.loop-choice.which c.loop-choice.invariant.0 (ap is_some (sym c.in_default.ensures))
 
 pub returns-then-is_none : goal.returns-then-is_none
 returns-then-is_none c =
     unknown_alternative c.args.self.now c.args.before c.loop-choice.choice-index c.args.guard.now c.loop-choice-item.result
-      c.loop-choice-test.true c.loop-choice-item.is c.loop-choice.invariant.1
-      c.loop-choice.which c.saturating_add.result c.loop-choice.invariant.0 c.saturating_add.ensures (ap is_some (sym c.in-Some.ensures))
-      (no_literal_named c.args.self.now c.loop-choice-item.result c.in-Some.place c.in-Some.ensures
-        (ap is_some (sym c.find_alternative.ensures) ∙ c.if-is_none.ensures))
+    c.loop-choice-test.true c.loop-choice-item.is c.loop-choice.invariant.1
+    c.loop-choice.which c.saturating_add.result c.loop-choice.invariant.0 c.saturating_add.ensures (ap is_some (sym c.in-Some.ensures))
+    (no_literal_named c.args.self.now c.loop-choice-item.result c.in-Some.place c.in-Some.ensures
+    (ap is_some (sym c.find_alternative.ensures) ∙ c.if-is_none.ensures))
 
 pub returns : goal.returns
 returns c =

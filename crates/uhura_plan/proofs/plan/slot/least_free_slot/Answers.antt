@@ -1,5 +1,5 @@
 -- The first slot without a mark is the least that is free.
-use Rattle.std.proofs.Common.{◌≡◌, Some, IsSome, sym, subst, ◌∙◌}
+use Rattle.std.proofs.Common.{IsSome, sym, subst, ◌∙◌}
 use Rattle.uhura_plan.proofs.Slots.{unmarked, IsLeastFree-first}
 use Rattle.uhura_plan.proofs.plan.slot.least_free_slot.Goals as goal
 

@@ -8,4 +8,4 @@ loop-requirement-init c = marks_none c.args.used.now c.requires.none
 pub loop-requirement-preserved : goal.loop-requirement-preserved
 loop-requirement-preserved c =
     marks_next c.args.requirements.now c.loop-requirement.used c.loop-requirement.requirement-index c.requirement-item.result
-      c.loop-requirement-test.true c.requirement-item.is c.requires.slots c.loop-requirement.invariant
+    c.loop-requirement-test.true c.requirement-item.is c.requires.slots c.loop-requirement.invariant
