@@ -5,6 +5,8 @@ mod arguments;
 mod run;
 mod script;
 mod status;
+#[cfg(test)]
+mod tests;
 
 use std::process::ExitCode;
 use uhura_io::{InputSource, OutputSink};
