@@ -6,12 +6,11 @@ mod run;
 mod script;
 mod status;
 
-use std::process::ExitCode;
-use uhura_io::{InputSource, OutputSink};
-
 use arguments::arguments;
 use run::run;
 use status::Status;
+use std::process::ExitCode;
+use uhura_io::{InputSource, OutputSink};
 
 fn main(rt: HostRuntime) -> ExitCode {
     let status = match arguments(&rt) {
