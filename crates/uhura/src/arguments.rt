@@ -2,11 +2,10 @@
 ghost use Rattle.std.specs.Prelude.{◌≡◌, ◌⊎◌, IfErr};
 ghost use Rattle.uhura.specs.declared.status.Status.TheVariants.{Usage, NoMemory};
 
+use crate::Status;
 use std::alloc::AllocGlobal;
 use std::env::{self, Env};
 use std::io;
-
-use crate::Status;
 
 /// The words behind the program's name, or the status of a run that can't have them: `Usage` where one isn't UTF-8,
 /// `NoMemory` where there is no memory for them.

@@ -8,12 +8,11 @@ mod status;
 #[cfg(test)]
 mod tests;
 
-use std::process::ExitCode;
-use uhura_io::{InputSource, OutputSink};
-
 use arguments::arguments;
 use run::run;
 use status::Status;
+use std::process::ExitCode;
+use uhura_io::{InputSource, OutputSink};
 
 fn main(rt: HostRuntime) -> ExitCode {
     let status = match arguments(&rt) {

@@ -59,3 +59,61 @@ fn is_listed(words: &Vec<String>) -> bool
         _ => false,
     }
 }
+
+#[cfg(test)]
+mod tests {
+    use super::*;
+    use uhura_io::{MemorySink, MemorySource};
+
+    /// The status of a run over memory, where these reads and these writes fail.
+    fn status(
+        alloc: Global,
+        words: &[&str],
+        script: &[u8],
+        reads: &[u64],
+        writes: &[u64],
+    ) -> Result<Status, AllocError> {
+        let mut list = Vec::new(alloc);
+        for word in words {
+            list.push(String::from_str(alloc, word)?)?;
+        }
+        let mut source = MemorySource::new(alloc, script, 4096, reads)?;
+        let mut sink = MemorySink::new(alloc, 4096, 4096, writes)?;
+        Ok(run(alloc, &list, &mut source, &mut sink))
+    }
+
+    #[test]
+    fn the_words_are_none_or_run(rt: HostRuntime) -> Result<(), AllocError> {
+        let alloc = rt.alloc();
+        assert_eq!(rt; status(alloc, &[], b"", &[], &[])?, Status::Done);
+        assert_eq!(rt; status(alloc, &["run"], b"\n\r\n", &[], &[])?, Status::Done);
+        assert_eq!(rt; status(alloc, &["ran"], b"", &[1], &[])?, Status::Usage);
+        assert_eq!(rt;
+            status(alloc, &["run", "run"], b"", &[1], &[])?,
+            Status::Usage
+        );
+        Ok(())
+    }
+
+    #[test]
+    fn the_first_fault_ends_the_run(rt: HostRuntime) -> Result<(), AllocError> {
+        let alloc = rt.alloc();
+        assert_eq!(rt;
+            status(alloc, &[], b"event a", &[1], &[1])?,
+            Status::ReadFault
+        );
+        assert_eq!(rt;
+            status(alloc, &[], b"event a", &[2], &[1])?,
+            Status::ReadFault
+        );
+        assert_eq!(rt;
+            status(alloc, &[], b"event a\n", &[2], &[1])?,
+            Status::WriteFault
+        );
+        assert_eq!(rt;
+            status(alloc, &[], b"event a", &[3], &[1])?,
+            Status::WriteFault
+        );
+        Ok(())
+    }
+}

@@ -21,7 +21,7 @@ pub enum Fed {
 }
 
 /// A reader of lines. It keeps the first 4,097 bytes of the line that is being read.
-#[derive(Drop)]
+#[derive(Debug, Drop)]
 pub struct Lines {
     buffer: Vec<u8>,
     used: usize,

@@ -26,7 +26,7 @@ returns-then-given-room-clause-bytes g c =
 pub pieces-preserved : goal.pieces-preserved
 pieces-preserved g c = record {
   going =
-    Going-more c.pieces.invariant.going _ _ _ c.in-Ok.ensures.bound.0 c.if-given-room.false (omega arith) c.in-Ok.ensures.bytes.0
+      Going-more c.pieces.invariant.going _ _ _ c.in-Ok.ensures.bound.0 c.if-given-room.false (omega arith) c.in-Ok.ensures.bytes.0
       c.in-Ok.ensures.count c.in-Ok-feed_all.ensures.bytes;
   source_faults = omega (arith, c.pieces.invariant.source_faults, c.in-Ok.ensures.cause.kept);
   sink_faults = omega (arith, c.pieces.invariant.sink_faults, c.in-Ok-feed_all.ensures.cause.kept);
