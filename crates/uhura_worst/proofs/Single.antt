@@ -1,4 +1,4 @@
--- Lists with one element.
+-- Lists with one element, and with two.
 use Rattle.std.proofs.Common.{◌≡◌, ℕ, zero, suc, [], ◌∷◌, subst, arith}
 use Rattle.std.specs.Prelude.{Contains, slice_get, Some}
 
@@ -11,3 +11,9 @@ for_single P x r (suc k, below, is) p = absurd (omega (arith, below))
 pub at_single : {X : Type 0} (P : ℕ → X → Type 0) (x r : X) (k : ℕ) → slice_get (x ∷ []) k ≡ Some r → P 0 x → P k r
 at_single P x r zero is p = let same : x ≡ r = cc in subst (P 0) same p
 at_single P x r (suc k) is p = cc
+
+-- with two elements, what holds of each at its place holds at each place
+pub at_pair : {X : Type 0} (P : ℕ → X → Type 0) (x y r : X) (k : ℕ) → slice_get (x ∷ y ∷ []) k ≡ Some r → P 0 x → P 1 y → P k r
+at_pair P x y r zero is p q = let same : x ≡ r = cc in subst (P 0) same p
+at_pair P x y r (suc zero) is p q = let same : y ≡ r = cc in subst (P 1) same q
+at_pair P x y r (suc (suc k)) is p q = cc

@@ -11,6 +11,7 @@ use Rattle.uhura_plan.specs.declared.uncertain.Uncertain.{Uncertain}
 use Rattle.uhura_plan.specs.declared.choice.Choice.{Choice}
 use Rattle.uhura_choice.specs.declared.prefix.Pick.{Pick}
 use Rattle.uhura_choice.specs.declared.prefix.Pick.TheVariants.{Alternative}
+use Rattle.uhura_veto.specs.declared.veto.Veto.TheVariants.{Deny, Cap}
 use Rattle.uhura_veto.specs.State.{State}
 use Rattle.uhura_worst.specs.Units.{units_in}
 use Rattle.uhura_worst.specs.Proposal.{Proposal}
@@ -49,6 +50,14 @@ evening_drive = record { plan = record { events = codes "home" ∷ []; uncertain
 -- dinner later by so many minutes
 abbrev pub dinner_later : ℕ → Proposal
 dinner_later minutes = at_zero [] ((requirement_side 0 Upper, minutes) ∷ [])
+
+-- The same drive, with dinner capped at 4 minutes later.
+abbrev pub capped_drive : State
+capped_drive = record { plan = evening_drive.plan; vetoes = Cap (codes "less") (requirement_side 0 Upper) 4 ∷ [] }
+
+-- dinner later by the one number and the drive cut by the other
+abbrev pub later_and_cut : ℕ → ℕ → Proposal
+later_and_cut later cut = at_zero [] ((requirement_side 0 Upper, later) ∷ (duration_side 0 Upper, cut) ∷ [])
 
 -- A duration of 10 to 20 whose end is to come at least 16 and at most 14 after its start. It may be narrowed at
 -- both ends, but not to nothing.
@@ -92,3 +101,40 @@ right_times (suc e) = pos 12
 
 abbrev pub by_right : Proposal
 by_right = record { branch = Alternative 1 ∷ []; units = units_in ((requirement_side 0 Upper, 2) ∷ []); times = right_times }
+
+-- Two drives from one start, of 10 to 20 and of 30 to 50. Their ends come 15 to 35 apart, or less or more at 1 each.
+abbrev pub short : Uncertain
+short = record { name = codes "d"; start = 0; end = codes "x"; lower = pos 10; upper = pos 20; lower_rate = None; upper_rate = None }
+
+abbrev pub long : Uncertain
+long = record { name = codes "f"; start = 0; end = codes "y"; lower = pos 30; upper = pos 50; lower_rate = None; upper_rate = None }
+
+abbrev pub gap : Requirement
+gap = record { name = codes "gap"; slot = 0; from = End 0; to = End 1; lower = priced (pos 15) 1; upper = priced (pos 35) 1; guard = [] }
+
+abbrev pub two_drives : State
+two_drives = record {
+  plan = record { events = codes "s" ∷ []; uncertains = short ∷ long ∷ []; choices = []; requirements = gap ∷ [] };
+  vetoes = [];
+}
+
+-- the gap's bounds loosened by so many
+abbrev pub gap_by : ℕ → ℕ → Proposal
+gap_by lower upper = at_zero [] ((requirement_side 0 Lower, lower) ∷ (requirement_side 0 Upper, upper) ∷ [])
+
+-- A meal at home for 0 or out for 5. Out, it is at one of two places for 9 each, and the first of them is denied.
+abbrev pub meal : Choice
+meal = record { name = codes "meal"; alternatives = (codes "home", 0) ∷ (codes "out", 5) ∷ []; guard = [] }
+
+abbrev pub place : Choice
+place = record { name = codes "place"; alternatives = (codes "indian", 9) ∷ (codes "thai", 9) ∷ []; guard = record { choice = 0; alternative = 1 } ∷ [] }
+
+abbrev pub dining : State
+dining = record {
+  plan = record { events = codes "a" ∷ []; uncertains = []; choices = meal ∷ place ∷ []; requirements = [] };
+  vetoes = Deny (codes "no_indian") (record { choice = 1; alternative = 0 } ∷ []) ∷ [];
+}
+
+-- the proposal with these two picks
+abbrev pub dine : Pick → Pick → Proposal
+dine first second = at_zero (first ∷ second ∷ []) []

@@ -1,10 +1,12 @@
 //! The definitions tried on worked plans: each contract is a fact about one of the plans of
 //! `specs/Examples.antt`, and the bodies are empty.
 ghost use Rattle.std.specs.Prelude.{◌≡◌};
+ghost use Rattle.uhura_choice.specs.declared.prefix.Pick.TheVariants.{Alternative, Inactive};
+ghost use Rattle.uhura_choice.specs.Branch.{IsBranch};
 ghost use Rattle.uhura_worst.specs.Allowed.{Allowed};
 ghost use Rattle.uhura_worst.specs.Cost.{cost};
-ghost use Rattle.uhura_worst.specs.Best.{IsFirst};
-ghost use Rattle.uhura_worst.specs.Examples.{evening_drive, dinner_later, squeezed, narrowed_to_nothing, two_sides, by_left, by_right};
+ghost use Rattle.uhura_worst.specs.Best.{IsFirst, IsBest};
+ghost use Rattle.uhura_worst.specs.Examples.{evening_drive, dinner_later, squeezed, narrowed_to_nothing, two_sides, by_left, by_right, capped_drive, later_and_cut, two_drives, gap_by, dining, dine};
 
 /// Dinner 10 minutes later is allowed and costs 20; 9 minutes aren't enough for the longest drive.
 pub fn longest_drive_counts()
@@ -24,4 +26,36 @@ pub fn first_branch_wins()
     ensures right { Allowed two_sides 1 by_right }
     ensures same_cost { cost two_sides.plan 1 by_left ≡ cost two_sides.plan 1 by_right }
     ensures not_first { IsFirst two_sides by_right → ⊥ }
+{}
+
+/// With dinner capped at 4 minutes later the answer is to cut the drive by the other 6.
+pub fn cap_is_kept()
+    ensures best { IsBest capped_drive (later_and_cut 4 6) }
+    ensures cost { cost capped_drive.plan 1 (later_and_cut 4 6) ≡ 26 }
+    ensures beyond_cap { Allowed capped_drive 1 (later_and_cut 5 5) → ⊥ }
+{}
+
+/// In halves a cap of 4 leaves room for 8 and no more, and a cost is twice what it is in whole units.
+pub fn halves_are_counted()
+    ensures allowed { Allowed capped_drive 2 (later_and_cut 7 13) }
+    ensures cost { cost capped_drive.plan 2 (later_and_cut 7 13) ≡ 53 }
+    ensures beyond_cap { Allowed capped_drive 2 (later_and_cut 9 11) → ⊥ }
+    ensures picks_cost { cost dining.plan 2 (dine (Alternative 1) (Alternative 1)) ≡ 28 }
+{}
+
+/// Each of two drives takes any of its lengths, whatever the other takes: their ends are 10 to 40 apart.
+pub fn drives_vary_apart()
+    ensures best { IsBest two_drives (gap_by 5 5) }
+    ensures cost { cost two_drives.plan 1 (gap_by 5 5) ≡ 10 }
+    ensures too_little { Allowed two_drives 1 (gap_by 5 4) → ⊥ }
+{}
+
+/// A choice whose guard isn't picked is inactive: it costs nothing, none of its alternatives may be picked, and a
+/// denial of one counts only where that one is picked.
+pub fn inactive_choice_is_free()
+    ensures best { IsBest dining (dine (Alternative 0) Inactive) }
+    ensures cost { cost dining.plan 1 (dine (Alternative 0) Inactive) ≡ 0 }
+    ensures picked { IsBranch dining.plan.choices (dine (Alternative 0) (Alternative 1)).branch → ⊥ }
+    ensures denied { Allowed dining 1 (dine (Alternative 1) (Alternative 0)) → ⊥ }
+    ensures not_denied { Allowed dining 1 (dine (Alternative 1) (Alternative 1)) }
 {}
