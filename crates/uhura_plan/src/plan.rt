@@ -68,6 +68,7 @@ impl Plan {
         if has >= EVENTS {
             return Err(EditRefusal::Full { limit: EVENTS, has });
         }
+        // By its type the name is one, as the plan keeps.
         let _ = name.bytes();
         self.events.insert(name)?;
         Ok(())
@@ -94,8 +95,12 @@ impl Plan {
             return Err(refusal);
         }
         let made = self.requirement_of(name, from, to, lower, upper, guard);
+        // By its type the name is one, as the plan keeps.
         let _ = name.bytes();
         self.requirements.insert(name, made)?;
         Ok(())
     }
 }
+
+#[cfg(test)]
+mod tests;

@@ -4,7 +4,7 @@ use thiserror::Error;
 
 /// Why an edit left everything as it was. Of several causes an edit answers the one that stands
 /// first here.
-#[derive(Debug, Drop, Error)]
+#[derive(Clone, Copy, Debug, PartialEq, Eq, Error)]
 pub enum EditRefusal {
     /// The name is in use.
     #[error("the name is taken")]
