@@ -1,4 +1,4 @@
-//! Whole runs over streams in memory: what a run leaves where a read or a write fails.
+//! Whole runs over streams in memory: the words, and what a run leaves where a read or a write fails.
 use crate::run::run;
 use std::alloc::{AllocError, Global};
 use uhura_io::{MemorySink, MemorySource, SteadySink, SteadySource};
@@ -23,16 +23,41 @@ fn ends(
     Ok((status as u8, sink.bytes() == written))
 }
 
+/// The status of a run with these words over steady streams.
+fn status(alloc: Global, words: &[&str], script: &[u8]) -> Result<u8, AllocError> {
+    let mut list = Vec::new(alloc);
+    for word in words {
+        list.push(String::from_str(alloc, word)?)?;
+    }
+    let mut source = SteadySource::new(alloc, script)?;
+    let status = run(alloc, &list, &mut source, &mut SteadySink::new());
+    Ok(status as u8)
+}
+
 #[test]
-fn a_read_fails(rt: HostRuntime) -> Result<(), AllocError> {
+fn the_words_are_none_or_run(rt: HostRuntime) -> Result<(), AllocError> {
+    let alloc = rt.alloc();
+    assert_eq!(rt; status(alloc, &[], b"")?, 0);
+    assert_eq!(rt; status(alloc, &["run"], EVENT_AND_QUESTION)?, 0);
+    assert_eq!(rt; status(alloc, &["run"], b"event a\njump")?, 1);
+    assert_eq!(rt; status(alloc, &["ran"], b"")?, 2);
+    assert_eq!(rt; status(alloc, &["run", "run"], b"")?, 2);
+    Ok(())
+}
+
+#[test]
+fn the_first_fault_ends_the_run(rt: HostRuntime) -> Result<(), AllocError> {
     let three = b"event a\nevent b\nevent c\n".as_slice();
-    for (script, piece, read, written) in [
-        (three, 19, 2, b"ok\nok\n".as_slice()),
-        (b"event a\n", 4096, 1, b""),
-        (b"event a\nevent b", 8, 2, b"ok\n"),
+    for (script, piece, read, write, status, written) in [
+        (three, 19, 2, 0, 4, b"ok\nok\n".as_slice()),
+        (three, 19, 2, 2, 5, b"ok\n"),
+        (b"event a\n", 4096, 1, 1, 4, b""),
+        (b"event a\nevent b", 8, 2, 0, 4, b"ok\n"),
+        (b"event a\nevent b", 8, 3, 0, 4, b"ok\n"),
+        (b"event a\nevent b", 8, 4, 2, 5, b"ok\n"),
     ] {
-        let got = ends(rt.alloc(), script, piece, read, 0, written)?;
-        assert_eq!(rt; got, (4, true), "at read {read} of {script:?}");
+        let got = ends(rt.alloc(), script, piece, read, write, written)?;
+        assert_eq!(rt; got, (status, true), "at {read} and {write} of {script:?}");
     }
     Ok(())
 }
@@ -55,20 +80,18 @@ fn each_read_fails_in_turn(rt: HostRuntime) -> Result<(), AllocError> {
 #[test]
 fn each_write_fails_in_turn(rt: HostRuntime) -> Result<(), AllocError> {
     for (k, _) in TRANSCRIPT.iter().enumerate() {
-        let got = ends(rt.alloc(), EVENT_AND_QUESTION, 1, 0, k as u64 + 1, &TRANSCRIPT[..k])?;
-        assert_eq!(rt; got, (5, true), "at the write of byte {k}");
+        let write = k as u64 + 1;
+        let got = ends(
+            rt.alloc(),
+            EVENT_AND_QUESTION,
+            1,
+            0,
+            write,
+            &TRANSCRIPT[..k],
+        )?;
+        assert_eq!(rt; got, (5, true), "at write {write}");
     }
     let got = ends(rt.alloc(), EVENT_AND_QUESTION, 1, 0, 26, TRANSCRIPT)?;
     assert_eq!(rt; got, (0, true));
-    Ok(())
-}
-
-#[test]
-fn steady_streams_never_fail(rt: HostRuntime) -> Result<(), AllocError> {
-    for (script, status) in [(EVENT_AND_QUESTION, 0), (b"event a\njump", 1), (b"", 0)] {
-        let mut source = SteadySource::new(rt.alloc(), script)?;
-        let got = run(rt.alloc(), &Vec::new(rt.alloc()), &mut source, &mut SteadySink::new());
-        assert_eq!(rt; got as u8, status, "of {script:?}");
-    }
     Ok(())
 }
