@@ -1,5 +1,5 @@
 -- How far a side may be loosened or narrowed: by its own limit and by the caps on it.
-use Rattle.std.specs.Prelude.{ℕ, ◌-ℤ◌, ◌*◌, ◌≤◌, ◌&&◌, min, nat_abs, nat_eq, Bool, true, false, if◌then◌else◌, ℤ, List, [], ◌∷◌, ◌++◌, fold, find, slice_get, None, Some, Option, option_to_list}
+use Rattle.std.specs.Prelude.{ℕ, ◌-ℤ◌, ◌*◌, ◌≤◌, ◌&&◌, min, nat_abs, nat_eq, Bool, true, false, if◌then◌else◌, ℤ, List, [], ◌∷◌, ◌++◌, fold, None, Some, Option, option_to_list}
 use Rattle.uhura_plan.specs.declared.key.Side.{Side}
 use Rattle.uhura_plan.specs.declared.key.Side.TheVariants.{Lower, Upper}
 use Rattle.uhura_plan.specs.declared.key.Item.{Item}
@@ -13,7 +13,6 @@ use Rattle.uhura_veto.specs.declared.veto.Veto.{Veto}
 use Rattle.uhura_veto.specs.declared.veto.Veto.TheVariants.{Deny, Cap}
 use Rattle.uhura_veto.specs.declared.room.Room.{Room}
 use Rattle.uhura_veto.specs.declared.room.Room.TheVariants.{Units, Unlimited}
-use Rattle.uhura_veto.specs.State.{State}
 
 abbrev pub is_same_side : Side → Side → Bool
 is_same_side Lower Lower = true
@@ -70,11 +69,11 @@ width_of u = nat_abs (u.upper -ℤ u.lower)
 
 abbrev pub requirement_room : List Veto → Side → Requirement → Room
 requirement_room vetoes side r = let bounded = bounded_of side r in
-  room_to_loosen bounded.bound bounded.price (caps_on (record { item = item.Requirement r.slot; side = side }) vetoes)
+    room_to_loosen bounded.bound bounded.price (caps_on (record { item = item.Requirement r.slot; side = side }) vetoes)
 
 abbrev pub duration_room : List Veto → ℕ → Side → Uncertain → Room
 duration_room vetoes d side u =
-  room_to_narrow (rate_of side u) (width_of u) (caps_on (record { item = item.Uncertain d; side = side }) vetoes)
+    room_to_narrow (rate_of side u) (width_of u) (caps_on (record { item = item.Uncertain d; side = side }) vetoes)
 
 -- the units lie within k times the room
 abbrev pub IsWithinRoom : ℕ → Room → ℕ → Type 0
