@@ -1,6 +1,6 @@
 -- The constraints of a plain plan: few, between its events, with bounds within the limits.
-use Rattle.std.proofs.Common.{◌≡◌, ℕ, ◌+◌, ◌*◌, ◌<◌, ◌≤◌, List, [], ◌∷◌, ◌++◌, length, refl, ap, sym, subst, ◌∙◌, arith, length-append, Option}
-use Rattle.std.specs.Prelude.{ℤ, pos, negsuc, neg_ℤ, ◌≤ℤ◌, None, Some, IfSome}
+use Rattle.std.proofs.Common.{◌≡◌, ℕ, ◌*◌, ◌<◌, ◌≤◌, List, [], ◌∷◌, ◌++◌, length, ap, sym, subst, arith, length-append, Option}
+use Rattle.std.specs.Prelude.{ℤ, pos, negsuc, ◌≤ℤ◌, None, Some, IfSome}
 use Rattle.std.specs.List.{All}
 use Rattle.std.proofs.lemmas.Int.{ints}
 use Rattle.std.proofs.lemmas.List.Elements.{All-nil, All-cons, All-head, All-tail, All-append}
@@ -17,10 +17,10 @@ use Rattle.uhura_session.specs.Plain.{IsControllable, IsPlainRequirement, node_o
 
 -- what holds of the constraints of each requirement holds of all
 all_from_each : (P : Constraint → Type 0) (Q : Requirement → Type 0) → ((r : Requirement) → Q r → All P (constraints_of r)) →
-  (rs : List Requirement) → All Q rs → All P (all_constraints rs)
+    (rs : List Requirement) → All Q rs → All P (all_constraints rs)
 all_from_each P Q each [] holds = All-nil P
 all_from_each P Q each (r ∷ rs) holds =
-  subst (All P) (sym (flat_map-cons constraints_of r rs))
+    subst (All P) (sym (flat_map-cons constraints_of r rs))
     (All-append P (constraints_of r) (all_constraints rs) (each r (All-head Q r rs holds)) (all_from_each P Q each rs (All-tail Q r rs holds)))
 
 node_below : (plan : Lists) (event : EventRef) → IsControllable plan event → node_of event < length plan.events
@@ -37,29 +37,29 @@ ends_upper n r (Some most) from to = All-cons (λ c. (c.from < n) × (c.to < n))
 
 pub ends_below : (plan : Lists) → All (IsPlainRequirement plan) plan.requirements → HasEndsBelow (length plan.events) (all_constraints plan.requirements)
 ends_below plan plain =
-  let n = length plan.events in
-  all_from_each (λ c. (c.from < n) × (c.to < n)) (IsPlainRequirement plan)
+    let n = length plan.events in
+    all_from_each (λ c. (c.from < n) × (c.to < n)) (IsPlainRequirement plan)
     (λ r own. All-append (λ c. (c.from < n) × (c.to < n)) (lower_constraint r r.lower.bound) (upper_constraint r r.upper.bound)
-      (ends_lower n r r.lower.bound (node_below plan r.from own.from) (node_below plan r.to own.to))
-      (ends_upper n r r.upper.bound (node_below plan r.from own.from) (node_below plan r.to own.to)))
+    (ends_lower n r r.lower.bound (node_below plan r.from own.from) (node_below plan r.to own.to))
+    (ends_upper n r r.upper.bound (node_below plan r.from own.from) (node_below plan r.to own.to)))
     plan.requirements plain
 
 small_lower : (r : Requirement) (bound : Option ℤ) → IfSome bound IsBound → HasSmallBounds (lower_constraint r bound)
 small_lower r None limits = All-nil (λ c. (negsuc 999999999 ≤ℤ c.least) × (c.least ≤ℤ pos 1000000000))
 small_lower r (Some least) limits = All-cons (λ c. (negsuc 999999999 ≤ℤ c.least) × (c.least ≤ℤ pos 1000000000)) _ [] (limits.least, limits.most)
-  (All-nil (λ c. (negsuc 999999999 ≤ℤ c.least) × (c.least ≤ℤ pos 1000000000)))
+    (All-nil (λ c. (negsuc 999999999 ≤ℤ c.least) × (c.least ≤ℤ pos 1000000000)))
 
 small_upper : (r : Requirement) (bound : Option ℤ) → IfSome bound IsBound → HasSmallBounds (upper_constraint r bound)
 small_upper r None limits = All-nil (λ c. (negsuc 999999999 ≤ℤ c.least) × (c.least ≤ℤ pos 1000000000))
 small_upper r (Some most) limits = All-cons (λ c. (negsuc 999999999 ≤ℤ c.least) × (c.least ≤ℤ pos 1000000000)) _ []
-  (let low = limits.least in let high = limits.most in (omega (arith, ints, low, high), omega (arith, ints, low, high)))
-  (All-nil (λ c. (negsuc 999999999 ≤ℤ c.least) × (c.least ≤ℤ pos 1000000000)))
+    (let low = limits.least in let high = limits.most in (omega (arith, ints, low, high), omega (arith, ints, low, high)))
+    (All-nil (λ c. (negsuc 999999999 ≤ℤ c.least) × (c.least ≤ℤ pos 1000000000)))
 
 pub small_bounds : (plan : Lists) → All (IsSoundRequirement plan) plan.requirements → HasSmallBounds (all_constraints plan.requirements)
 small_bounds plan sound =
-  all_from_each (λ c. (negsuc 999999999 ≤ℤ c.least) × (c.least ≤ℤ pos 1000000000)) (IsSoundRequirement plan)
+    all_from_each (λ c. (negsuc 999999999 ≤ℤ c.least) × (c.least ≤ℤ pos 1000000000)) (IsSoundRequirement plan)
     (λ r own. All-append (λ c. (negsuc 999999999 ≤ℤ c.least) × (c.least ≤ℤ pos 1000000000)) (lower_constraint r r.lower.bound) (upper_constraint r r.upper.bound)
-      (small_lower r r.lower.bound own.lower.bound) (small_upper r r.upper.bound own.upper.bound))
+    (small_lower r r.lower.bound own.lower.bound) (small_upper r r.upper.bound own.upper.bound))
     plan.requirements sound
 
 at_most_one_lower : (r : Requirement) (bound : Option ℤ) → length (lower_constraint r bound) ≤ 1
@@ -73,7 +73,7 @@ at_most_one_upper r (Some most) = omega arith
 pub few_constraints : (rs : List Requirement) → length (all_constraints rs) ≤ 2 * length rs
 few_constraints [] = omega arith
 few_constraints (r ∷ rs) =
-  let split : length (all_constraints (r ∷ rs)) ≡ length (constraints_of r ++ all_constraints rs) = ap length (flat_map-cons constraints_of r rs) in
-  let parts = length-append (constraints_of r) (all_constraints rs) in
-  let own = length-append (lower_constraint r r.lower.bound) (upper_constraint r r.upper.bound) in
-  omega (arith, split, parts, own, at_most_one_lower r r.lower.bound, at_most_one_upper r r.upper.bound, few_constraints rs)
+    let split : length (all_constraints (r ∷ rs)) ≡ length (constraints_of r ++ all_constraints rs) = ap length (flat_map-cons constraints_of r rs) in
+    let parts = length-append (constraints_of r) (all_constraints rs) in
+    let own = length-append (lower_constraint r r.lower.bound) (upper_constraint r r.upper.bound) in
+    omega (arith, split, parts, own, at_most_one_lower r r.lower.bound, at_most_one_upper r r.upper.bound, few_constraints rs)

@@ -55,7 +55,7 @@ pub record Grants (says : List ℕ) (Next : Type 0) (text : List ℕ) (refused :
 -- the answer to a question: a best proposal, or `none` exactly where nothing is allowed
 abbrev pub IsProposed : State → List ℕ → Type 0
 IsProposed state text =
-  ((p : Proposal) × IsBest state p × (text ≡ proposal_text state.plan p)) ⊎ (AllowsNothing state × (text ≡ nothing_text))
+    ((p : Proposal) × IsBest state p × (text ≡ proposal_text state.plan p)) ⊎ (AllowsNothing state × (text ≡ nothing_text))
 
 -- an edit is accepted where it has no refusal
 abbrev pub AnswersEdit : Option EditRefusal → Type 0 → State → List ℕ → Bool → State → Type 0
@@ -65,9 +65,9 @@ AnswersEdit (Some refusal) Edited state text refused next = Refuses state text r
 -- what is answered to a request
 unfoldable pub AnswersRequest : Request → State → List ℕ → Bool → State → Type 0
 AnswersRequest (AddEvent name) state text refused next =
-  AnswersEdit (event_refusal state.plan name) (next ≡ record state { plan = with_event state.plan name }) state text refused next
+    AnswersEdit (event_refusal state.plan name) (next ≡ record state { plan = with_event state.plan name }) state text refused next
 AnswersRequest (AddRequirement name from to lower upper) state text refused next =
-  AnswersEdit (requirement_refusal state.plan name from to (unpriced lower) (unpriced upper) [])
+    AnswersEdit (requirement_refusal state.plan name from to (unpriced lower) (unpriced upper) [])
     (AddsRequirement state.plan next.plan name from to (unpriced lower) (unpriced upper) [] × (next.vetoes ≡ state.vetoes))
     state text refused next
 AnswersRequest Propose state text refused next = IsProposed state text × (refused ≡ false) × (next ≡ state)

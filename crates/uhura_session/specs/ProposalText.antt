@@ -43,13 +43,13 @@ side_line verb name side (suc n) = line_of (verb ∷ name ∷ side_word side ∷
 abbrev pub loosen_lines : Proposal → List Requirement → List ℕ
 loosen_lines p [] = []
 loosen_lines p (r ∷ rs) =
-  side_line (codes "loosen") r.name Lower (loosened p Lower r) ++ side_line (codes "loosen") r.name Upper (loosened p Upper r) ++ loosen_lines p rs
+    side_line (codes "loosen") r.name Lower (loosened p Lower r) ++ side_line (codes "loosen") r.name Upper (loosened p Upper r) ++ loosen_lines p rs
 
 -- the lines of the sides of the durations from place d on
 abbrev pub narrow_lines : Proposal → ℕ → List Uncertain → List ℕ
 narrow_lines p d [] = []
 narrow_lines p d (u ∷ us) =
-  side_line (codes "narrow") u.name Lower (narrowed p Lower d) ++ side_line (codes "narrow") u.name Upper (narrowed p Upper d) ++ narrow_lines p (d + 1) us
+    side_line (codes "narrow") u.name Lower (narrowed p Lower d) ++ side_line (codes "narrow") u.name Upper (narrowed p Upper d) ++ narrow_lines p (d + 1) us
 
 -- a line for each controllable event from place e on, with its time
 abbrev pub time_lines : (ℕ → ℤ) → ℕ → List (List ℕ) → List ℕ
@@ -59,9 +59,9 @@ time_lines times e (name ∷ names) = line_of (codes "at" ∷ name ∷ spelling 
 -- the lines of a proposal
 abbrev pub proposal_text : Lists → Proposal → List ℕ
 proposal_text plan p =
-  line_of (codes "proposal" ∷ spelling (pos (cost plan 1 p)) ∷ [])
-  ++ pick_lines plan.choices p.branch
-  ++ loosen_lines p plan.requirements
-  ++ narrow_lines p 0 plan.uncertains
-  ++ time_lines p.times 0 plan.events
-  ++ line_of (codes "end" ∷ [])
+    line_of (codes "proposal" ∷ spelling (pos (cost plan 1 p)) ∷ [])
+    ++ pick_lines plan.choices p.branch
+    ++ loosen_lines p plan.requirements
+    ++ narrow_lines p 0 plan.uncertains
+    ++ time_lines p.times 0 plan.events
+    ++ line_of (codes "end" ∷ [])

@@ -21,9 +21,9 @@ bound_of word = if bytes_eq word (codes "-") then Some None else option_and_then
 -- the requirement that the words behind `require` stand for
 abbrev pub requirement_of : List ℕ → List ℕ → List ℕ → List ℕ → List ℕ → Option Request
 requirement_of name from to low high =
-  if is_name name && is_name from && is_name to
-  then option_and_then (λ lower. option_map (λ upper. AddRequirement name from to lower upper) (bound_of high)) (bound_of low)
-  else None
+    if is_name name && is_name from && is_name to
+    then option_and_then (λ lower. option_map (λ upper. AddRequirement name from to lower upper) (bound_of high)) (bound_of low)
+    else None
 
 -- the request that the words of a line are a form of
 abbrev pub request_of : List (List ℕ) → Option Request

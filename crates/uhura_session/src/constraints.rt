@@ -18,7 +18,10 @@ fn node(event: EventRef) -> u32
 }
 
 /// Appends what the bounds of a requirement say, the lower one first.
-fn push_bounds(constraints: &mut Vec<Constraint>, requirement: &Requirement) -> Result<(), AllocError>
+fn push_bounds(
+    constraints: &mut Vec<Constraint>,
+    requirement: &Requirement,
+) -> Result<(), AllocError>
     requires { AreWithinLimits requirement.now.upper }
     ensures { IfOk result (λ _. constraints.new.items ≡ constraints.old.items ++ constraints_of requirement.now) }
 {

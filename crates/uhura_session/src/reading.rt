@@ -64,13 +64,7 @@ fn bound(word: &[u8]) -> Option<Option<i64>>
 }
 
 /// The requirement that the words behind `require` stand for.
-fn requirement(
-    name: &[u8],
-    from: &[u8],
-    to: &[u8],
-    low: &[u8],
-    high: &[u8],
-) -> Option<Request>
+fn requirement(name: &[u8], from: &[u8], to: &[u8], low: &[u8], high: &[u8]) -> Option<Request>
     ensures form { result ≡ requirement_of name.now from.now to.now low.now high.now }
     ensures within { IfSome result HasBounds }
 {

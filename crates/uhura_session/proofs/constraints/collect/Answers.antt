@@ -1,4 +1,4 @@
-use Rattle.std.proofs.Common.{◌≡◌, ◌++◌, ◌+◌, ◌∷◌, drop, ap, ◌∙◌, sym, arith}
+use Rattle.std.proofs.Common.{◌≡◌, ◌+◌, drop, ap, ◌∙◌, sym, arith}
 use Rattle.std.specs.Prelude.{slice_get, Some, None}
 use Rattle.std.proofs.lemmas.List.Concat.{flat_map-cons}
 use Rattle.uhura_session.specs.Plain.{constraints_of, all_constraints}
@@ -8,17 +8,17 @@ use Rattle.uhura_session.proofs.constraints.collect.Goals.{in-Some+in_ok-push_bo
 
 pub loop-position-preserved : goal.loop-position-preserved
 loop-position-preserved c =
-  let reqs = c.args.plan.now.requirements in
-  let i = c.loop-position.position in
-  elim c.match-requirement.branch [
-    in-Some+in_ok-push_bounds w ↦
-      let there : slice_get reqs i ≡ Some w.in-Some.requirement.now = sym w.in-Some.ensures in
-      rw w.constraints-is
-        (extended _ _ (constraints_of w.in-Some.requirement.now) (all_constraints (drop (i + 1) reqs)) (all_constraints (drop i reqs)) _
+    let reqs = c.args.plan.now.requirements in
+    let i = c.loop-position.position in
+    elim c.match-requirement.branch [
+      | in-Some+in_ok-push_bounds w ↦
+          let there : slice_get reqs i ≡ Some w.in-Some.requirement.now = sym w.in-Some.ensures in
+          rw w.constraints-is
+          (extended _ _ (constraints_of w.in-Some.requirement.now) (all_constraints (drop (i + 1) reqs)) (all_constraints (drop i reqs)) _
           w.in_ok-push_bounds.ensures
           (ap all_constraints (left_at reqs i w.in-Some.requirement.now there) ∙ flat_map-cons constraints_of w.in-Some.requirement.now (drop (i + 1) reqs))
           c.loop-position.invariant)
-    | in_default w ↦
-      let none : slice_get reqs i ≡ None = sym w.in_default.ensures in
-      absurd (omega (arith, ended_at reqs i none, c.loop-position-test.true, c.requirements-position-end.ensures.count))
-  ]
+      | in_default w ↦
+          let none : slice_get reqs i ≡ None = sym w.in_default.ensures in
+          absurd (omega (arith, ended_at reqs i none, c.loop-position-test.true, c.requirements-position-end.ensures.count))
+    ]

@@ -5,5 +5,5 @@ use Rattle.uhura_session.proofs.propose.put_times.Given as goal
 
 abbrev pub invariant-loop-event : goal.invariant-loop-event
 invariant-loop-event l =
-  l.text.items ++ time_lines (time_at l.times) l.event (drop l.event l.plan.events)
-  ≡ l.initial.text.items ++ time_lines (time_at l.times) 0 l.plan.events
+    l.text.items ++ time_lines (time_at l.times) l.event (drop l.event l.plan.events)
+    ≡ l.initial.text.items ++ time_lines (time_at l.times) 0 l.plan.events
