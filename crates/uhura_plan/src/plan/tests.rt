@@ -46,36 +46,72 @@ fn two_events(rt: &impl Abort, alloc: Global) -> Result<Plan, Fail> {
     Ok(plan)
 }
 
+// The numbers of events, durations, choices and requirements.
+fn counts(plan: &Plan) -> [u32; 4] {
+    let (events, uncertains) = (plan.events(), plan.uncertains());
+    [events, uncertains, plan.choices(), plan.requirements()]
+}
+
+// The places of the duration, the choice, the first choice's alternative and the requirement of this name.
+fn places(plan: &Plan, name: Name) -> [Option<u32>; 4] {
+    let uncertain = plan.find_uncertain(name);
+    let choice = plan.find_choice(name);
+    let alternative = plan.find_alternative(0, name);
+    [uncertain, choice, alternative, plan.find_requirement(name)]
+}
+
+// Whether there is a duration, a choice and a requirement at the place, and a requirement in the slot.
+fn there(plan: &Plan, place: u32) -> [bool; 4] {
+    let uncertain = plan.uncertain(place).is_some();
+    let choice = plan.choice(place).is_some();
+    let requirement = plan.requirement(place).is_some();
+    [
+        uncertain,
+        choice,
+        requirement,
+        plan.requirement_in(place).is_some(),
+    ]
+}
+
+// The name, the slot, the events and the bounds of a requirement, and the number of its literals.
+fn parts(r: &Requirement) -> ((Name, u32), [EventRef; 2], [Bounded; 2], usize) {
+    let literals = r.guard.literals().len();
+    (
+        (r.name, r.slot),
+        [r.from, r.to],
+        [r.lower, r.upper],
+        literals,
+    )
+}
+
 #[test]
-fn finds_what_was_added(rt: HostRuntime) -> Result<(), Fail> {
+fn finds_by_name_and_place(rt: HostRuntime) -> Result<(), Fail> {
     let plan = two_events(&rt, rt.alloc())?;
-    let (b, r) = (name(&rt, "b"), name(&rt, "r"));
-    assert_eq!(rt; plan.events(), 2);
-    assert_eq!(rt; plan.event(1), Some(b));
-    assert_eq!(rt; plan.find_event(b), Some(EventRef::Controllable(1)));
-    assert_eq!(rt; plan.requirements(), 1);
-    assert_eq!(rt; plan.find_requirement(r), Some(0));
-    let found = plan.requirement(0).expect(&rt, "the requirement");
-    assert_eq!(rt; (found.name, found.slot), (r, 0));
-    assert_eq!(rt; found.to, EventRef::Controllable(1));
-    assert_eq!(rt; found.lower, bounded(-5));
-    assert_eq!(rt; found.upper, bounded(7));
-    assert!(rt; found.guard.literals().is_empty());
-    assert!(rt; plan.requirement_in(0).is_some());
+    let (a, b, r) = (name(&rt, "a"), name(&rt, "b"), name(&rt, "r"));
+    assert_eq!(rt; counts(&plan), [2, 0, 0, 1]);
+    assert_eq!(rt; places(&plan, a), [None; 4]);
+    assert_eq!(rt; places(&plan, r), [None, None, None, Some(0)]);
+    assert_eq!(rt; there(&plan, 0), [false, false, true, true]);
+    assert_eq!(rt; there(&plan, 1), [false; 4]);
+    assert_eq!(rt; [plan.event(1), plan.event(2)], [Some(b), None]);
     Ok(())
 }
 
 #[test]
-fn finds_nothing_else(rt: HostRuntime) -> Result<(), Fail> {
+fn keeps_a_requirement(rt: HostRuntime) -> Result<(), Fail> {
     let plan = two_events(&rt, rt.alloc())?;
-    let a = name(&rt, "a");
-    assert!(rt; plan.event(2).is_none() && plan.find_event(name(&rt, "r")).is_none());
-    assert!(rt; plan.uncertains() == 0 && plan.uncertain(0).is_none());
-    assert!(rt; plan.find_uncertain(a).is_none());
-    assert!(rt; plan.choices() == 0 && plan.choice(0).is_none());
-    assert!(rt; plan.find_choice(a).is_none() && plan.find_alternative(0, a).is_none());
-    assert!(rt; plan.requirement(1).is_none() && plan.requirement_in(1).is_none());
-    assert!(rt; plan.find_requirement(a).is_none());
+    let from = EventRef::Controllable(0);
+    let to = EventRef::Controllable(1);
+    assert_eq!(rt; plan.find_event(name(&rt, "b")), Some(to));
+    assert_eq!(rt; plan.find_event(name(&rt, "r")), None);
+    let found = plan.requirement(0).expect(&rt, "the requirement");
+    let stated = (
+        (name(&rt, "r"), 0),
+        [from, to],
+        [bounded(-5), bounded(7)],
+        0,
+    );
+    assert!(rt; parts(found) == stated);
     Ok(())
 }
 
