@@ -51,9 +51,12 @@ evening_drive = record { plan = record { events = codes "home" ∷ []; uncertain
 abbrev pub dinner_later : ℕ → Proposal
 dinner_later minutes = at_zero [] ((requirement_side 0 Upper, minutes) ∷ [])
 
--- The same drive, with dinner capped at 4 minutes later.
+-- The same drive, with dinner capped at 6 minutes later and then at 4.
 abbrev pub capped_drive : State
-capped_drive = record { plan = evening_drive.plan; vetoes = Cap (codes "less") (requirement_side 0 Upper) 4 ∷ [] }
+capped_drive = record {
+  plan = evening_drive.plan;
+  vetoes = Cap (codes "some") (requirement_side 0 Upper) 6 ∷ Cap (codes "less") (requirement_side 0 Upper) 4 ∷ [];
+}
 
 -- dinner later by the one number and the drive cut by the other
 abbrev pub later_and_cut : ℕ → ℕ → Proposal

@@ -17,7 +17,8 @@ pub fn longest_drive_counts()
 
 /// A duration can't be narrowed until nothing is left of it.
 pub fn something_is_left()
-    ensures { Allowed squeezed 1 narrowed_to_nothing → ⊥ }
+    ensures nothing { Allowed squeezed 1 narrowed_to_nothing → ⊥ }
+    ensures cost { cost squeezed.plan 1 narrowed_to_nothing ≡ 30 }
 {}
 
 /// Of two allowed branches that cost the same, the later one is not the answer.
@@ -28,7 +29,7 @@ pub fn first_branch_wins()
     ensures not_first { IsFirst two_sides by_right → ⊥ }
 {}
 
-/// With dinner capped at 4 minutes later the answer is to cut the drive by the other 6.
+/// With dinner capped at 6 and at 4 minutes later the answer takes the 4 and cuts the drive by the other 6.
 pub fn cap_is_kept()
     ensures best { IsBest capped_drive (later_and_cut 4 6) }
     ensures cost { cost capped_drive.plan 1 (later_and_cut 4 6) ≡ 26 }
@@ -47,15 +48,18 @@ pub fn halves_are_counted()
 pub fn drives_vary_apart()
     ensures best { IsBest two_drives (gap_by 5 5) }
     ensures cost { cost two_drives.plan 1 (gap_by 5 5) ≡ 10 }
+    ensures in_halves { Allowed two_drives 2 (gap_by 10 10) }
     ensures too_little { Allowed two_drives 1 (gap_by 5 4) → ⊥ }
 {}
 
-/// A choice whose guard isn't picked is inactive: it costs nothing, none of its alternatives may be picked, and a
-/// denial of one counts only where that one is picked.
+/// A choice is inactive exactly where its guard isn't picked. It then costs nothing, none of its alternatives may be
+/// picked, and no denial of one counts.
 pub fn inactive_choice_is_free()
     ensures best { IsBest dining (dine (Alternative 0) Inactive) }
     ensures cost { cost dining.plan 1 (dine (Alternative 0) Inactive) ≡ 0 }
     ensures picked { IsBranch dining.plan.choices (dine (Alternative 0) (Alternative 1)).branch → ⊥ }
+    ensures skipped { IsBranch dining.plan.choices (dine (Alternative 1) Inactive).branch → ⊥ }
+    ensures unknown { IsBranch dining.plan.choices (dine (Alternative 1) (Alternative 2)).branch → ⊥ }
     ensures denied { Allowed dining 1 (dine (Alternative 1) (Alternative 0)) → ⊥ }
     ensures not_denied { Allowed dining 1 (dine (Alternative 1) (Alternative 1)) }
 {}

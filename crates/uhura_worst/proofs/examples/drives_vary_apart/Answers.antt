@@ -1,4 +1,4 @@
-use Rattle.std.proofs.Common.{rules, ◌≡◌, ℕ, zero, suc, [], refl, arith, lit<, lit≤}
+use Rattle.std.proofs.Common.{rules, ◌≡◌, ℕ, ◌*◌, ◌≤◌, zero, suc, [], refl, arith, lit<, lit≤}
 use Rattle.std.proofs.lemmas.Int.{ints}
 use Rattle.std.specs.Prelude.{ℤ, pos, ◌-ℤ◌, ◌≤ℤ◌, IsFalse}
 use Rattle.uhura_plan.specs.declared.key.Side.TheVariants.{Lower, Upper}
@@ -10,29 +10,33 @@ use Rattle.uhura_worst.specs.Examples.{two_drives, gap_by, gap, short, long}
 use Rattle.uhura_worst.proofs.Single.{for_single, at_pair}
 use Rattle.uhura_worst.proofs.examples.drives_vary_apart.Goals as goal
 
-by-five-allowed : Allowed two_drives 1 (gap_by 5 5)
-by-five-allowed =
-    let q : Proposal = gap_by 5 5 in
+-- a gap that is loosened by 5 or more at both bounds is allowed
+gap-allowed : (k lower upper : ℕ) → 1 ≤ k → k * 5 ≤ lower → k * 5 ≤ upper → Allowed two_drives k (gap_by lower upper)
+gap-allowed k lower upper scale low high =
+    let q : Proposal = gap_by lower upper in
     record {
-      scale = lit≤ tt;
+      scale = scale;
       branch = tt;
       not_denied = search rules;
       loosened_within = λ side r member.
-          for_single (λ r. IsWithinRoom 1 (requirement_room [] side r) (loosened q side r)) gap r member
-          (elim side as (λ side. IsWithinRoom 1 (requirement_room [] side gap) (loosened q side gap)) [ Lower ↦ tt | Upper ↦ tt ]);
+          for_single (λ r. IsWithinRoom k (requirement_room [] side r) (loosened q side r)) gap r member
+          (elim side as (λ side. IsWithinRoom k (requirement_room [] side gap) (loosened q side gap)) [ Lower ↦ tt | Upper ↦ tt ]);
       loosened_active = λ side r member inactive.
           for_single (λ r. IsFalse (holds r.guard []) → loosened q side r ≡ 0) gap r member (λ h. search rules) inactive;
       narrowed_within = λ side d u is.
-          at_pair (λ d u. IsWithinRoom 1 (duration_room [] d side u) (narrowed q side d)) short long u d is
-          (elim side as (λ side. IsWithinRoom 1 (duration_room [] 0 side short) (narrowed q side 0)) [ Lower ↦ lit≤ tt | Upper ↦ lit≤ tt ])
-          (elim side as (λ side. IsWithinRoom 1 (duration_room [] 1 side long) (narrowed q side 1)) [ Lower ↦ lit≤ tt | Upper ↦ lit≤ tt ]);
+          at_pair (λ d u. IsWithinRoom k (duration_room [] d side u) (narrowed q side d)) short long u d is
+          (elim side as (λ side. IsWithinRoom k (duration_room [] 0 side short) (narrowed q side 0)) [ Lower ↦ omega (arith) | Upper ↦ omega (arith) ])
+          (elim side as (λ side. IsWithinRoom k (duration_room [] 1 side long) (narrowed q side 1)) [ Lower ↦ omega (arith) | Upper ↦ omega (arith) ]);
       ranges_left = λ d u is.
-          at_pair (λ d u. least_left 1 q d u ≤ℤ greatest_left 1 q d u) short long u d is (search rules) (search rules);
+          at_pair (λ d u. least_left k q d u ≤ℤ greatest_left k q d u) short long u d is (omega (arith, ints)) (omega (arith, ints));
       meets = λ durations left r member active.
-          for_single (λ r. IsWithin 1 q r (time_of two_drives.plan q durations r.to -ℤ time_of two_drives.plan q durations r.from)) gap r member
+          for_single (λ r. IsWithin k q r (time_of two_drives.plan q durations r.to -ℤ time_of two_drives.plan q durations r.from)) gap r member
           (let first = left 0 short refl in let second = left 1 long refl in
-          record { lower = omega (arith, ints, first.1, second.0); upper = omega (arith, ints, first.0, second.1) });
+          record { lower = omega (arith, ints, first.1, second.0, low); upper = omega (arith, ints, first.0, second.1, high) });
     }
+
+pub returns-clause-in_halves : goal.returns-clause-in_halves
+returns-clause-in_halves c = gap-allowed 2 10 10 (lit≤ tt) (lit≤ tt) (lit≤ tt)
 
 -- what the two drives take
 abbrev lengths : ℤ → ℤ → ℕ → ℤ
@@ -47,7 +51,7 @@ are-left k q first second a b c d = λ place u is.
 pub returns-clause-best : goal.returns-clause-best
 returns-clause-best c = record {
   cheapest = record {
-    allowed = by-five-allowed;
+    allowed = gap-allowed 1 5 5 (lit≤ tt) (lit≤ tt) (lit≤ tt);
     least = λ k q allowed.
         let some = allowed.ranges_left 0 short refl in
         let more = allowed.ranges_left 1 long refl in
