@@ -141,3 +141,21 @@ dining = record {
 -- the proposal with these two picks
 abbrev pub dine : Pick → Pick → Proposal
 dine first second = at_zero (first ∷ second ∷ []) []
+
+-- dinner as above, later by at most 3
+abbrev pub dinner_at_most : Requirement
+dinner_at_most = record dinner { upper = record { bound = Some (pos 40); price = Some (record { rate = 2; most = Some 3 }) } }
+
+-- A duration of 10 to 20, after another in the list, that has to take 15.
+abbrev pub exact : Requirement
+exact = record { name = codes "r"; slot = 0; from = Controllable 0; to = End 1; lower = bounded (pos 15); upper = bounded (pos 15); guard = [] }
+
+abbrev pub pinned : State
+pinned = record {
+  plan = record { events = codes "s" ∷ []; uncertains = long ∷ stretch ∷ []; choices = []; requirements = exact ∷ [] };
+  vetoes = [];
+}
+
+-- the range from 10 to 20 narrowed by so many at its two ends
+abbrev pub pinned_by : ℕ → ℕ → Proposal
+pinned_by lower upper = at_zero [] ((duration_side 1 Lower, lower) ∷ (duration_side 1 Upper, upper) ∷ [])

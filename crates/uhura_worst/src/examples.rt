@@ -1,12 +1,18 @@
 //! The definitions tried on worked plans: each contract is a fact about one of the plans of
 //! `specs/Examples.antt`, and the bodies are empty.
-ghost use Rattle.std.specs.Prelude.{◌≡◌};
+ghost use Rattle.std.specs.Prelude.{◌≡◌, ℕ, ◌<◌, length, Some, ◌∷◌, [], codes, pos};
 ghost use Rattle.uhura_choice.specs.declared.prefix.Pick.TheVariants.{Alternative, Inactive};
 ghost use Rattle.uhura_choice.specs.Branch.{IsBranch};
+ghost use Rattle.uhura_plan.specs.declared.key.Side.TheVariants.{Upper};
+ghost use Rattle.uhura_veto.specs.declared.veto.Veto.TheVariants.{Cap};
+ghost use Rattle.uhura_veto.specs.declared.room.Room.TheVariants.{Units};
+ghost use Rattle.uhura_veto.specs.State.{State};
+ghost use Rattle.uhura_veto.specs.Room.{requirement_room, duration_room};
+ghost use Rattle.uhura_worst.specs.Proposal.{Proposal};
 ghost use Rattle.uhura_worst.specs.Allowed.{Allowed};
 ghost use Rattle.uhura_worst.specs.Cost.{cost};
 ghost use Rattle.uhura_worst.specs.Best.{IsFirst, IsBest};
-ghost use Rattle.uhura_worst.specs.Examples.{evening_drive, dinner_later, squeezed, narrowed_to_nothing, two_sides, by_left, by_right, capped_drive, later_and_cut, two_drives, gap_by, dining, dine};
+ghost use Rattle.uhura_worst.specs.Examples.{evening_drive, dinner_later, squeezed, narrowed_to_nothing, two_sides, by_left, by_right, capped_drive, later_and_cut, two_drives, gap_by, dining, dine, stretch, not_after, dinner_at_most, requirement_side, duration_side, pinned, pinned_by};
 
 /// Dinner 10 minutes later is allowed and costs 20; 9 minutes aren't enough for the longest drive.
 pub fn longest_drive_counts()
@@ -62,4 +68,27 @@ pub fn inactive_choice_is_free()
     ensures unknown { IsBranch dining.plan.choices (dine (Alternative 1) (Alternative 2)).branch → ⊥ }
     ensures denied { Allowed dining 1 (dine (Alternative 1) (Alternative 0)) → ⊥ }
     ensures not_denied { Allowed dining 1 (dine (Alternative 1) (Alternative 1)) }
+{}
+
+/// A duration that has to take 15 is narrowed at both ends, each at its own rate.
+pub fn both_ends_are_narrowed()
+    ensures best { IsBest pinned (pinned_by 5 5) }
+    ensures cost { cost pinned.plan 1 (pinned_by 5 5) ≡ 25 }
+{}
+
+/// A cap makes no room where a side has no price, and a room is the least of what limits it.
+pub fn room_is_least()
+    ensures unpriced { requirement_room (Cap (codes "v") (requirement_side 1 Upper) 5 ∷ []) Upper not_after ≡ Units 0 }
+    ensures most { requirement_room [] Upper dinner_at_most ≡ Units 3 }
+    ensures width { duration_room [] 0 Upper stretch ≡ Units 10 }
+    ensures capped { duration_room (Cap (codes "v") (duration_side 0 Upper) 7 ∷ []) 0 Upper stretch ≡ Units 7 }
+{}
+
+/// Two best proposals for one state cost the same and have one branch, and where they have the same units, they have
+/// the same times.
+pub fn best_is_settled()
+    ensures same_cost { (state : State) (p q : Proposal) → IsBest state p → IsBest state q → cost state.plan 1 p ≡ cost state.plan 1 q }
+    ensures same_branch { (state : State) (p q : Proposal) → IsBest state p → IsBest state q → p.branch ≡ q.branch }
+    ensures same_times { (state : State) (p q : Proposal) → IsBest state p → IsBest state q → p.units ≡ q.units →
+        (e : ℕ) → e < length state.plan.events → p.times e ≡ q.times e }
 {}
