@@ -22,7 +22,7 @@ first_of (Some refusal ∷ later) = Some refusal
 abbrev pub carried : ℕ → ℕ
 carried n = min n 4294967295
 
--- the edit answers its first refusal, or succeeds where it has none and there is memory
+-- the edit answers its first refusal; where it has none, it succeeds or wants memory
 abbrev pub Answers : {X : Type 0} → Option EditRefusal → Result X EditRefusal → Type 0
 Answers (Some refusal) result = result ≡ Err refusal
 Answers None (Ok done) = ⊤

@@ -10,7 +10,7 @@ is_letter byte = (nat_le 65 byte && nat_le byte 90) || (nat_le 97 byte && nat_le
 unfoldable pub is_name_byte : ℕ → Bool
 is_name_byte byte = is_letter byte || ((nat_le 48 byte && nat_le byte 57) || byte == 95)
 
--- the words that stand at fixed places of a line
+-- three words that stand where a name might follow: they are no names
 unfoldable pub is_fixed_word : List ℕ → Bool
 is_fixed_word word = bytes_eq word (codes "lower") || (bytes_eq word (codes "upper") || bytes_eq word (codes "when"))
 

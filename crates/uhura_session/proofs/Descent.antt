@@ -8,12 +8,12 @@ use Rattle.std.proofs.lemmas.Bool.{cases_lt}
 use Rattle.std.proofs.lemmas.Int.{ints}
 use borrow.Author.Differences.{up, down}
 use Rattle.uhura_session.specs.declared.schedule.Constraint.{Constraint}
-use Rattle.uhura_session.specs.Schedule.{Meets, HasEndsBelow, HasNoSchedule}
+use Rattle.uhura_session.specs.Schedule.{IsSolution, HasEndsBelow, HasNoSolution}
 use Rattle.uhura_session.proofs.Sums.{sum_below, sum_below-lt, sum_below-member, sum_below-ones, sum_below-agree}
 
 -- a schedule from 0 on, as whole numbers
 abbrev pub Fits : List Constraint → (ℕ → ℕ) → Type 0
-Fits constraints s = Meets constraints (λ node. pos (s node))
+Fits constraints s = IsSolution constraints (λ node. pos (s node))
 
 -- 1 where the schedule is at most the time found so far, and 0 elsewhere
 abbrev pub tight : (ℕ → ℕ) → (ℕ → ℕ) → ℕ → ℕ
@@ -127,7 +127,7 @@ module _ (constraints : List Constraint) (nodes : ℕ) (ends : HasEndsBelow node
 
   -- and none starts earlier, since it could be moved to start at 0
   pub IsTightBeyond-none : (k : ℕ) (times : ℕ → ℕ) → nodes ≤ k → IsTightBeyond k constraints nodes times →
-      HasNoSchedule constraints
+      HasNoSolution constraints
   IsTightBeyond-none k times all_passes beyond s meets =
       let far : ℕ = sum_below nodes (λ node. down (s node)) in
       let moved : ℕ → ℕ = λ node. up (s node +ℤ pos far) in

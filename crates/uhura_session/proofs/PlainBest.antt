@@ -37,7 +37,7 @@ open_guard r picks none = subst (λ guard. IsTrue (holds guard picks)) (sym none
 
 -- a schedule that meets the requirements' constraints meets the requirements
 pub meets_from_constraints : (plan : Lists) (q : Proposal) → IsPlain plan → ((side : Side) (r : Requirement) → Contains plan.requirements r → loosened q side r ≡ 0) →
-    schedule.Meets (all_constraints plan.requirements) q.times → Meets plan 1 q
+    schedule.IsSolution (all_constraints plan.requirements) q.times → Meets plan 1 q
 meets_from_constraints plan q plain unloosened met durations left r member active =
     within_from_met plan q durations r (All-contains (IsPlainRequirement plan) plan.requirements r plain.requirements member)
     (unloosened Lower r member) (unloosened Upper r member)
@@ -45,7 +45,7 @@ meets_from_constraints plan q plain unloosened met durations left r member activ
 
 -- and the other way round
 pub constraints_from_meets : (plan : Lists) (q : Proposal) → IsPlain plan → ((side : Side) (r : Requirement) → Contains plan.requirements r → loosened q side r ≡ 0) →
-    Meets plan 1 q → schedule.Meets (all_constraints plan.requirements) q.times
+    Meets plan 1 q → schedule.IsSolution (all_constraints plan.requirements) q.times
 constraints_from_meets plan q plain unloosened meets =
     constraints_from_met q.times plan.requirements
     (All-weaker (Contains plan.requirements) (λ r. IsMet r q.times)
@@ -76,7 +76,7 @@ allowed_unloosened plan vetoes k q plain allowed side r member =
     (allowed.loosened_within side r member)
 
 -- the schedule of the constraints, with nothing loosened, is allowed
-pub schedule_allowed : (plan : Lists) (s : ℕ → ℤ) → IsPlain plan → schedule.Meets (all_constraints plan.requirements) s →
+pub schedule_allowed : (plan : Lists) (s : ℕ → ℤ) → IsPlain plan → schedule.IsSolution (all_constraints plan.requirements) s →
     Allowed (free plan) 1 (unloosened s)
 schedule_allowed plan s plain met = record {
   scale = lit≤ tt;
@@ -119,7 +119,7 @@ first_of_all (x ∷ xs) earlier = earlier
 
 -- the earliest schedule of the constraints is the best proposal
 pub earliest_is_best : (plan : Lists) (times : List ℤ) → IsPlain plan → length times ≡ length plan.events →
-    schedule.IsEarliest (all_constraints plan.requirements) times → IsBest (free plan) (unloosened (schedule.time_at times))
+    schedule.IsLeastSolution (all_constraints plan.requirements) times → IsBest (free plan) (unloosened (schedule.time_at times))
 earliest_is_best plan times plain counts earliest =
     let s : ℕ → ℤ = schedule.time_at times in
     let costs : cost plan 1 (unloosened s) ≡ 0 = schedule_free plan s plain in
@@ -138,6 +138,6 @@ earliest_is_best plan times plain counts earliest =
     }
 
 -- where the constraints have no schedule nothing is allowed
-pub nothing_is_allowed : (plan : Lists) → IsPlain plan → schedule.HasNoSchedule (all_constraints plan.requirements) → AllowsNothing (free plan)
+pub nothing_is_allowed : (plan : Lists) → IsPlain plan → schedule.HasNoSolution (all_constraints plan.requirements) → AllowsNothing (free plan)
 nothing_is_allowed plan plain none = λ q allowed.
     none q.times (constraints_from_meets plan q plain (allowed_unloosened plan [] 1 q plain allowed) allowed.meets)

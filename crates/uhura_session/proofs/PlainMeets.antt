@@ -11,7 +11,7 @@ use Rattle.uhura_plan.specs.declared.key.EventRef.{EventRef}
 use Rattle.uhura_plan.specs.declared.key.EventRef.TheVariants.{Controllable, End}
 use Rattle.uhura_plan.specs.declared.requirement.Requirement.{Requirement}
 use Rattle.uhura_worst.specs.Proposal.{Proposal, loosened, time_of, IsWithin}
-use Rattle.uhura_session.specs.Schedule.{Holds, Meets}
+use Rattle.uhura_session.specs.Schedule.{Holds, IsSolution}
 use Rattle.uhura_session.specs.Plain.{IsControllable, IsPlainRequirement, node_of, lower_constraint, upper_constraint, constraints_of, all_constraints}
 
 -- scale 1 changes nothing
@@ -54,7 +54,7 @@ back_of_all P [] ys all = all
 back_of_all P (x ∷ xs) ys all = back_of_all P xs ys (All-tail P x (xs ++ ys) all)
 
 -- the constraints of all requirements hold where each requirement is met, and the other way round
-pub met_from_constraints : (s : ℕ → ℤ) (rs : List Requirement) → Meets (all_constraints rs) s → All (λ r. IsMet r s) rs
+pub met_from_constraints : (s : ℕ → ℤ) (rs : List Requirement) → IsSolution (all_constraints rs) s → All (λ r. IsMet r s) rs
 met_from_constraints s [] met = All-nil (λ r. IsMet r s)
 met_from_constraints s (r ∷ rs) met =
     let both : All (Holds s) (constraints_of r ++ all_constraints rs) = subst (All (Holds s)) (flat_map-cons constraints_of r rs) met in
@@ -66,7 +66,7 @@ met_from_constraints s (r ∷ rs) met =
     })
     (met_from_constraints s rs (back_of_all (Holds s) (constraints_of r) (all_constraints rs) both))
 
-pub constraints_from_met : (s : ℕ → ℤ) (rs : List Requirement) → All (λ r. IsMet r s) rs → Meets (all_constraints rs) s
+pub constraints_from_met : (s : ℕ → ℤ) (rs : List Requirement) → All (λ r. IsMet r s) rs → IsSolution (all_constraints rs) s
 constraints_from_met s [] met = All-nil (Holds s)
 constraints_from_met s (r ∷ rs) met =
     let own = All-head (λ r. IsMet r s) r rs met in

@@ -7,7 +7,7 @@ use Rattle.std.proofs.lemmas.List.{get_or-replicate, length-replicate}
 use Rattle.std.proofs.lemmas.Int.{ints}
 use borrow.Author.Differences.{up}
 use Rattle.uhura_session.specs.declared.schedule.Constraint.{Constraint}
-use Rattle.uhura_session.specs.Schedule.{time_at, Meets, HasEndsBelow, HasNoSchedule, IsNonNegativeBelow, IsNowhereAfter}
+use Rattle.uhura_session.specs.Schedule.{time_at, IsSolution, HasEndsBelow, HasNoSolution, IsNonNegativeBelow, IsNowhereAfter}
 use Rattle.uhura_session.specs.Passes.{IsPass, HasRisen, HasTimesUpTo}
 use Rattle.uhura_session.proofs.Descent.{IsTightBeyond, IsTightBeyond-pass, IsTightBeyond-start, IsTightBeyond-none, IsRound, pos-up}
 
@@ -18,7 +18,7 @@ whole times node = up (time_at times node)
 -- the times are nowhere after a schedule from 0 on
 abbrev pub IsBeforeAll : List Constraint → ℕ → List ℤ → Type 0
 IsBeforeAll constraints nodes times =
-    (s : ℕ → ℤ) → IsNonNegativeBelow nodes s → Meets constraints s → IsNowhereAfter times s
+    (s : ℕ → ℤ) → IsNonNegativeBelow nodes s → IsSolution constraints s → IsNowhereAfter times s
 
 -- after so many passes the times are small, nowhere after any schedule, and each schedule is tight at more nodes
 pub record IsAfterRounds (constraints : List Constraint) (nodes rounds : ℕ) (times : List ℤ) : Type 0 where
@@ -89,7 +89,7 @@ module _ (constraints : List Constraint) (nodes : ℕ) (ends : HasEndsBelow node
 
   -- after as many passes as there are nodes, if there are any
   pub IsAfterRounds-none : (rounds : ℕ) (times : List ℤ) (empty : Bool) → nodes ≤ rounds →
-      IsAfterRounds constraints nodes rounds times → empty ≡ (nodes == 0) → OnFalse empty (HasNoSchedule constraints)
+      IsAfterRounds constraints nodes rounds times → empty ≡ (nodes == 0) → OnFalse empty (HasNoSolution constraints)
   IsAfterRounds-none rounds times true all_passes so_far same = tt
   IsAfterRounds-none rounds times false all_passes so_far same =
       let some : 0 < nodes = omega (arith, eqb-false nodes 0 (sym same)) in

@@ -11,7 +11,7 @@ use Rattle.uhura_worst.specs.Best.{IsBest, AllowsNothing}
 use Rattle.uhura_session.specs.declared.reading.Request.{Request}
 use Rattle.uhura_session.specs.declared.reading.Request.TheVariants.{AddEvent, AddRequirement, Propose}
 use Rattle.uhura_session.specs.declared.reading.Reading.{Reading}
-use Rattle.uhura_session.specs.declared.reading.Reading.TheVariants.{Quiet, Asks, Unread}
+use Rattle.uhura_session.specs.declared.reading.Reading.TheVariants.{Quiet, Asks, NotUnderstood}
 use Rattle.uhura_session.specs.Reading.{reading}
 use Rattle.uhura_session.specs.ProposalText.{line_of, proposal_text}
 
@@ -23,7 +23,7 @@ empty_state = record { plan = empty; vetoes = [] }
 abbrev pub accepted_text : List ℕ
 accepted_text = line_of (codes "ok" ∷ [])
 
--- a line that isn't understood yet is refused by this text
+-- a line that isn't understood yet, and an edit that is refused, is answered by this text
 abbrev pub unbuilt_text : List ℕ
 unbuilt_text = line_of (codes "error" ∷ codes "14" ∷ codes "Unbuilt" ∷ [])
 
@@ -72,9 +72,10 @@ AnswersRequest (AddRequirement name from to lower upper) state text refused next
     state text refused next
 AnswersRequest Propose state text refused next = IsProposed state text × (refused ≡ false) × (next ≡ state)
 
+-- what is answered to a line, by what it asks for
 abbrev pub AnswersReading : Reading → State → List ℕ → Bool → State → Type 0
 AnswersReading Quiet state text refused next = Grants [] (next ≡ state) text refused
-AnswersReading Unread state text refused next = Refuses state text refused next
+AnswersReading NotUnderstood state text refused next = Refuses state text refused next
 AnswersReading (Asks request) state text refused next = AnswersRequest request state text refused next
 
 -- in a state a line is answered by this text, refused or not, and leaves the next state

@@ -2,7 +2,7 @@
 use Rattle.std.specs.Prelude.{ℕ, ◌<◌, ◌≡◌, Bool, true, false, ℤ, pos, ◌+ℤ◌, ◌≤ℤ◌, ◌<ℤ◌, List, length, slice_set}
 use Rattle.std.specs.List.{All}
 use Rattle.uhura_session.specs.declared.schedule.Constraint.{Constraint}
-use Rattle.uhura_session.specs.Schedule.{time_at, Meets, IsNowhereAfter}
+use Rattle.uhura_session.specs.Schedule.{time_at, IsSolution, IsNowhereAfter}
 
 -- the least time of `to` that the constraint allows
 abbrev pub asked_of : Constraint → List ℤ → ℤ
@@ -17,7 +17,7 @@ IsRelaxed c old new false = (asked_of c old ≤ℤ time_at old c.to) × (new ≡
 pub record IsPass (constraints : List Constraint) (old new : List ℤ) : Type 0 where
   pub grows : (node : ℕ) → time_at old node ≤ℤ time_at new node
   pub reaches : All (λ c. asked_of c old ≤ℤ time_at new c.to) constraints
-  pub stays_least : (s : ℕ → ℤ) → Meets constraints s → IsNowhereAfter old s → IsNowhereAfter new s
+  pub stays_least : (s : ℕ → ℤ) → IsSolution constraints s → IsNowhereAfter old s → IsNowhereAfter new s
 
 -- some time rises
 pub record HasRisen (old new : List ℤ) : Type 0 where

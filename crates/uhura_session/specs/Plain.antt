@@ -43,6 +43,7 @@ abbrev pub upper_constraint : Requirement → Option ℤ → List Constraint
 upper_constraint r None = []
 upper_constraint r (Some most) = record { from = node_of r.to; to = node_of r.from; least = neg_ℤ most } ∷ []
 
+-- the constraints of a requirement, the lower one first
 abbrev pub constraints_of : Requirement → List Constraint
 constraints_of r = lower_constraint r r.lower.bound ++ upper_constraint r r.upper.bound
 

@@ -30,6 +30,7 @@ pick_lines (c ∷ cs) [] = []
 pick_lines (c ∷ cs) (Alternative a ∷ picks) = line_of (codes "pick" ∷ c.name ∷ alternative_name c a ∷ []) ++ pick_lines cs picks
 pick_lines (c ∷ cs) (Inactive ∷ picks) = pick_lines cs picks
 
+-- a side as it is written
 abbrev pub side_word : Side → List ℕ
 side_word Lower = codes "lower"
 side_word Upper = codes "upper"

@@ -8,7 +8,7 @@ use Rattle.uhura_plan.specs.Limits.{IsBound}
 use Rattle.uhura_session.specs.declared.reading.Request.{Request}
 use Rattle.uhura_session.specs.declared.reading.Request.TheVariants.{AddEvent, AddRequirement, Propose}
 use Rattle.uhura_session.specs.declared.reading.Reading.{Reading}
-use Rattle.uhura_session.specs.declared.reading.Reading.TheVariants.{Quiet, Asks, Unread}
+use Rattle.uhura_session.specs.declared.reading.Reading.TheVariants.{Quiet, Asks, NotUnderstood}
 
 -- a bound lies from -1,000,000,000 to 1,000,000,000
 abbrev pub limited : ℤ → Option ℤ
@@ -33,18 +33,19 @@ request_of (verb ∷ name ∷ []) = if bytes_eq verb (codes "event") && is_name 
 request_of (verb ∷ name ∷ from ∷ to ∷ low ∷ high ∷ []) = if bytes_eq verb (codes "require") then requirement_of name from to low high else None
 request_of (verb ∷ more) = None
 
--- a line without a byte that may not stand there
+-- a line asks for what its words are a form of
 abbrev pub reading_of_words : Option Request → Reading
-reading_of_words None = Unread
+reading_of_words None = NotUnderstood
 reading_of_words (Some request) = Asks request
 
+-- a line with a byte that may not stand there isn't understood
 abbrev pub reading_unless_bad : Option ℕ → List ℕ → Reading
-reading_unless_bad (Some place) line = Unread
+reading_unless_bad (Some place) line = NotUnderstood
 reading_unless_bad None line = reading_of_words (request_of (words line))
 
--- a line of more than 4,096 bytes isn't understood whatever it holds, and a quiet one asks for nothing
+-- a line of more than 4,096 bytes isn't understood, whatever it holds; another that is quiet asks for nothing
 abbrev pub reading : List ℕ → Reading
-reading line = if nat_lt 4096 (length line) then Unread else if is_quiet line then Quiet else reading_unless_bad (first_bad line) line
+reading line = if nat_lt 4096 (length line) then NotUnderstood else if is_quiet line then Quiet else reading_unless_bad (first_bad line) line
 
 -- the bounds of a request are within their limits
 abbrev pub HasBounds : Request → Type 0
@@ -52,7 +53,8 @@ HasBounds (AddEvent name) = Unit {0}
 HasBounds (AddRequirement name from to lower upper) = IfSome lower IsBound × IfSome upper IsBound
 HasBounds Propose = Unit {0}
 
+-- and so are those of the request that a line asks for
 abbrev pub AsksWithinBounds : Reading → Type 0
 AsksWithinBounds Quiet = Unit {0}
-AsksWithinBounds Unread = Unit {0}
+AsksWithinBounds NotUnderstood = Unit {0}
 AsksWithinBounds (Asks request) = HasBounds request

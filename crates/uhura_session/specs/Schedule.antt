@@ -12,8 +12,8 @@ abbrev pub Holds : (ℕ → ℤ) → Constraint → Type 0
 Holds s c = (s c.from +ℤ c.least) ≤ℤ s c.to
 
 -- the schedule meets each constraint
-abbrev pub Meets : List Constraint → (ℕ → ℤ) → Type 0
-Meets constraints s = All (Holds s) constraints
+abbrev pub IsSolution : List Constraint → (ℕ → ℤ) → Type 0
+IsSolution constraints s = All (Holds s) constraints
 
 -- each of the first nodes has a time of at least 0
 abbrev pub IsNonNegativeBelow : ℕ → (ℕ → ℤ) → Type 0
@@ -24,14 +24,14 @@ abbrev pub IsNowhereAfter : List ℤ → (ℕ → ℤ) → Type 0
 IsNowhereAfter times s = (node : ℕ) → node < length times → time_at times node ≤ℤ s node
 
 -- the times are a schedule from 0 on, and at no node later than any other such schedule
-pub record IsEarliest (constraints : List Constraint) (times : List ℤ) : Type 0 where
+pub record IsLeastSolution (constraints : List Constraint) (times : List ℤ) : Type 0 where
   pub nonneg : IsNonNegativeBelow (length times) (time_at times)
-  pub meets : Meets constraints (time_at times)
-  pub least : (s : ℕ → ℤ) → IsNonNegativeBelow (length times) s → Meets constraints s → IsNowhereAfter times s
+  pub meets : IsSolution constraints (time_at times)
+  pub least : (s : ℕ → ℤ) → IsNonNegativeBelow (length times) s → IsSolution constraints s → IsNowhereAfter times s
 
 -- no schedule meets the constraints, at times below 0 or above
-abbrev pub HasNoSchedule : List Constraint → Type 0
-HasNoSchedule constraints = (s : ℕ → ℤ) → Meets constraints s → ⊥
+abbrev pub HasNoSolution : List Constraint → Type 0
+HasNoSolution constraints = (s : ℕ → ℤ) → IsSolution constraints s → ⊥
 
 -- the constraints speak of the first nodes alone
 abbrev pub HasEndsBelow : ℕ → List Constraint → Type 0

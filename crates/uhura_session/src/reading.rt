@@ -28,7 +28,7 @@ pub enum Request {
 pub enum Reading {
     Quiet,
     Asks(Request),
-    Unread,
+    NotUnderstood,
 }
 
 /// The most bytes of a line, without its newline.
@@ -135,7 +135,7 @@ pub fn read(line: &[u8]) -> Reading
     ensures within { AsksWithinBounds result }
 {
     if line.len() > LINE_BYTES {
-        return Reading::Unread;
+        return Reading::NotUnderstood;
     }
     if is_quiet(line) {
         return Reading::Quiet;
@@ -143,8 +143,8 @@ pub fn read(line: &[u8]) -> Reading
     match words(line) {
         Ok(words) => match request_in(words) {
             Some(request) => Reading::Asks(request),
-            None => Reading::Unread,
+            None => Reading::NotUnderstood,
         },
-        Err(_) => Reading::Unread,
+        Err(_) => Reading::NotUnderstood,
     }
 }

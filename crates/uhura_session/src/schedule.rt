@@ -2,7 +2,7 @@
 //! after pass raises each time that a constraint wants later.
 ghost use Rattle.std.specs.Prelude.{ℕ, ◌≡◌, ◌+◌, ◌*◌, ◌^◌, ◌<◌, ◌≤◌, negsuc, pos, ◌≤ℤ◌, length};
 ghost use Rattle.std.specs.Bool.{MatchBool, OnTrue, OnFalse};
-ghost use Rattle.uhura_session.specs.Schedule.{IsEarliest, HasNoSchedule, HasEndsBelow, HasSmallBounds};
+ghost use Rattle.uhura_session.specs.Schedule.{IsLeastSolution, HasNoSolution, HasEndsBelow, HasSmallBounds};
 ghost use Rattle.uhura_session.specs.Passes.{IsRelaxed, IsPass, HasRisen, HasTimesUpTo};
 
 /// The time of `to` minus the time of `from` is at least `least`.
@@ -20,8 +20,8 @@ pub fn earliest(constraints: &[Constraint], times: &mut [i64]) -> bool
     requires bounds { HasSmallBounds constraints.now }
     requires few_constraints { length constraints.now ≤ 4096 }
     requires few_nodes { length times.old ≤ 512 }
-    ensures found { OnTrue result (IsEarliest constraints.now times.new) }
-    ensures none { OnFalse result (HasNoSchedule constraints.now) }
+    ensures found { OnTrue result (IsLeastSolution constraints.now times.new) }
+    ensures none { OnFalse result (HasNoSolution constraints.now) }
 {
     times.fill(0);
     for _round in 0..times.len() {

@@ -55,7 +55,7 @@ impl Session {
         self.text.clear();
         match read(line) {
             Reading::Quiet => Ok(false),
-            Reading::Unread => refuse(&mut self.text),
+            Reading::NotUnderstood => refuse(&mut self.text),
             Reading::Asks(request) => self.answer_request(request),
         }
     }

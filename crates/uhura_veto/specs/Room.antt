@@ -14,12 +14,14 @@ use Rattle.uhura_veto.specs.declared.veto.Veto.TheVariants.{Deny, Cap}
 use Rattle.uhura_veto.specs.declared.room.Room.{Room}
 use Rattle.uhura_veto.specs.declared.room.Room.TheVariants.{Units, Unlimited}
 
+-- the two sides are one
 abbrev pub is_same_side : Side → Side → Bool
 is_same_side Lower Lower = true
 is_same_side Upper Upper = true
 is_same_side Lower Upper = false
 is_same_side Upper Lower = false
 
+-- the two items are one
 abbrev pub is_same_item : Item → Item → Bool
 is_same_item (item.Requirement a) (item.Requirement b) = nat_eq a b
 is_same_item (item.Uncertain a) (item.Uncertain b) = nat_eq a b
@@ -67,10 +69,12 @@ rate_of Upper u = u.upper_rate
 abbrev pub width_of : Uncertain → ℕ
 width_of u = nat_abs (u.upper -ℤ u.lower)
 
+-- the room of a requirement's side, under these vetoes
 abbrev pub requirement_room : List Veto → Side → Requirement → Room
 requirement_room vetoes side r = let bounded = bounded_of side r in
     room_to_loosen bounded.bound bounded.price (caps_on (record { item = item.Requirement r.slot; side = side }) vetoes)
 
+-- the room of a side of the duration in place d, under these vetoes
 abbrev pub duration_room : List Veto → ℕ → Side → Uncertain → Room
 duration_room vetoes d side u =
     room_to_narrow (rate_of side u) (width_of u) (caps_on (record { item = item.Uncertain d; side = side }) vetoes)

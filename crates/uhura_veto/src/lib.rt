@@ -1,5 +1,5 @@
-//! Vetoes: combinations of picks that are denied, and caps on how far a side may be loosened. What they
-//! deny, and the room that they leave, stand in `specs/`.
+//! Vetoes: combinations of picks that are denied, and caps on how far a side may be loosened or narrowed.
+//! What they deny, and the room that they leave, stand in `specs/`.
 #![tactic(auto)]
 
 mod room;

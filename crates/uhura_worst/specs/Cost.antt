@@ -18,6 +18,7 @@ price_of (Some rate) units = rate * units
 abbrev pub loosening_cost : Proposal → Side → Requirement → ℕ
 loosening_cost q side r = price_of (option_map (λ price. price.rate) (bounded_of side r).price) (loosened q side r)
 
+-- and those of a side of the duration in place d
 abbrev pub narrowing_cost : Proposal → ℕ → Side → Uncertain → ℕ
 narrowing_cost q d side u = price_of (rate_of side u) (narrowed q side d)
 

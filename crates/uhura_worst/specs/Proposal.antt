@@ -27,14 +27,16 @@ loosened q side r = q.units (record { item = item.Requirement r.slot; side = sid
 abbrev pub narrowed : Proposal → Side → ℕ → ℕ
 narrowed q side d = q.units (record { item = item.Uncertain d; side = side })
 
--- the ends of the range that a proposal at scale k leaves to the duration u in place d
+-- the least length that a proposal at scale k leaves to the duration u in place d: k times the range's lower end,
+-- and the units of the lower side
 abbrev pub least_left : ℕ → Proposal → ℕ → Uncertain → ℤ
 least_left k q d u = (pos k *ℤ u.lower) +ℤ pos (narrowed q Lower d)
 
+-- and the greatest: k times the range's upper end, less the units of the upper side
 abbrev pub greatest_left : ℕ → Proposal → ℕ → Uncertain → ℤ
 greatest_left k q d u = (pos k *ℤ u.upper) -ℤ pos (narrowed q Upper d)
 
--- each duration of the list, one for each uncertain duration in place d, lies within the range left
+-- the length that is given to each uncertain duration, by its place, lies within the range left
 abbrev pub AreLeft : Lists → ℕ → Proposal → (ℕ → ℤ) → Type 0
 AreLeft plan k q durations = (d : ℕ) (u : Uncertain) → slice_get plan.uncertains d ≡ Some u →
     (least_left k q d u ≤ℤ durations d) × (durations d ≤ℤ greatest_left k q d u)
@@ -50,7 +52,7 @@ pub record IsWithin (k : ℕ) (q : Proposal) (r : Requirement) (difference : ℤ
   pub lower : IfSome r.lower.bound (λ least. ((pos k *ℤ least) -ℤ pos (loosened q Lower r)) ≤ℤ difference)
   pub upper : IfSome r.upper.bound (λ most. difference ≤ℤ ((pos k *ℤ most) +ℤ pos (loosened q Upper r)))
 
--- whichever of the durations left nature picks, each requirement that is active in the branch is met
+-- whatever lengths within the ranges left the durations take, each requirement that is active in the branch is met
 abbrev pub Meets : Lists → ℕ → Proposal → Type 0
 Meets plan k q = (durations : ℕ → ℤ) → AreLeft plan k q durations →
     (r : Requirement) → Contains plan.requirements r → IsTrue (holds r.guard q.branch) →
