@@ -11,8 +11,8 @@ use Rattle.uhura_veto.specs.State.{State}
 use Rattle.uhura_session.specs.Answers.{empty_state}
 use Rattle.uhura_session.specs.Transcript.{Transcript}
 use Rattle.uhura_session.proofs.Conversing.{Conversation-nil}
-use Rattle.uhura.specs.Run.{script_limit, IsFrontOfTranscript, Leaves, Runs}
-use Rattle.uhura.specs.Script.{Stands, AnswersBytes, EndsRun, CompletesAs, status_of}
+use Rattle.uhura.specs.Run.{script_limit, Leaves, Runs}
+use Rattle.uhura.specs.Script.{Stops, Stands, AnswersBytes, EndsRun, CompletesAs, status_of}
 use Rattle.uhura.specs.declared.script.Stop.{Stop}
 use Rattle.uhura.specs.declared.script.Stop.TheVariants as stop
 use Rattle.uhura.specs.declared.status.Status.{Status}
@@ -42,10 +42,10 @@ Going-start left written given reading state fresh begins = record {
   count = λ _. omega arith;
 }
 
--- a run that stopped leaves a front of the transcript
-leaves-front : (why : Stop) (bytes text : List ℕ) (left : Option (List ℕ)) → IsFrontOfTranscript bytes text → Leaves (status_of why) bytes text left
-leaves-front stop.WriteFault bytes text left front = front
-leaves-front stop.NoMemory bytes text left front = front
+-- a run that stopped leaves what its status says
+leaves-stopped : (why : Stop) (bytes text : List ℕ) (left : Option (List ℕ)) → Stops why bytes text → Leaves (status_of why) bytes text left
+leaves-stopped stop.WriteFault bytes text left s = s
+leaves-stopped stop.NoMemory bytes text left s = s
 
 -- at the end of the input the run leaves what its status says
 leaves-completed : (result : Status) (bytes text : List ℕ) (left : Option (List ℕ)) → IsAtEnd left → length bytes ≤ script_limit
@@ -97,14 +97,14 @@ Runs-stopped {left'' = left''} g buffer n k why within taken a =
     ap (λ l. l ++ drop k (take n buffer)) (sym (take-take k n buffer within)) ∙ take-append-drop k (take n buffer) in
     let all : g.bytes ++ take k buffer ++ drop k (take n buffer) ≡ g.bytes ++ take n buffer =
     append_assoc g.bytes (take k buffer) (drop k (take n buffer)) ∙ ap (λ l. g.bytes ++ l) split in
-    let front : IsFrontOfTranscript (g.bytes ++ take n buffer) (g.text ++ a.text) =
-    subst (λ l. IsFrontOfTranscript l (g.text ++ a.text)) all (a.advances g.bytes g.text _ g.stands (drop k (take n buffer))) in
+    let stops : Stops why (g.bytes ++ take n buffer) (g.text ++ a.text) =
+    subst (λ l. Stops why l (g.text ++ a.text)) all (a.advances g.bytes g.text _ g.stands (drop k (take n buffer))) in
     record {
       bytes = g.bytes ++ take n buffer;
       text = g.text ++ a.text;
       taken = Consumes-trans _ _ _ g.bytes (take n buffer) g.taken taken;
       added = Appends-trans _ _ _ g.text a.text g.added a.added;
-      leaves = leaves-front why (g.bytes ++ take n buffer) (g.text ++ a.text) left'' front;
+      leaves = leaves-stopped why (g.bytes ++ take n buffer) (g.text ++ a.text) left'' stops;
     }
 
 -- a piece passed the limit: its bytes within the limit were answered
@@ -150,10 +150,8 @@ Runs-no_memory left written = record {
   added = Appends-nil written;
   leaves = record {
     count = 0;
-    answers = [];
     refused = false;
     last = empty_state;
     conversation = Conversation-nil empty_state;
-    front = (0, refl);
   };
 }

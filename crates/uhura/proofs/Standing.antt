@@ -12,8 +12,8 @@ use Rattle.uhura_veto.specs.State.{State}
 use Rattle.uhura_session.specs.Answers.{Answers, empty_state}
 use Rattle.uhura_session.specs.Transcript.{Conversation}
 use Rattle.uhura_session.proofs.Conversing.{Conversation-nil, Conversation-push}
-use Rattle.uhura.specs.Run.{IsFrontOfTranscript}
-use Rattle.uhura.specs.Script.{AnswersLine, Stands, AnswersBytes, AnswersEnd}
+use Rattle.uhura.specs.Run.{AnswersFirstLines, IsFrontOfTranscript}
+use Rattle.uhura.specs.Script.{AnswersLine, Stops, Stands, AnswersBytes, AnswersEnd}
 use Rattle.uhura.specs.declared.script.Stop.{Stop}
 use Rattle.uhura.specs.declared.script.Stop.TheVariants.{WriteFault, NoMemory}
 
@@ -62,29 +62,29 @@ Stands-newline bytes past refused old new state last answer some empty a s = rec
 
 -- ---- a run that ends early
 
--- what stands answered is a front of the transcript of all bytes that begin with these
-pub front-standing : (bytes past : List ℕ) (refused : Bool) (reading : Reading) (state : State) (rest : List ℕ)
-    → Stands bytes past refused reading state → IsFrontOfTranscript (bytes ++ rest) past
-front-standing bytes past refused reading state rest s = record {
+-- what stands answered is the answers to the first lines of all bytes that begin with these
+first-standing : (bytes past : List ℕ) (refused : Bool) (reading : Reading) (state : State) (rest : List ℕ)
+    → Stands bytes past refused reading state → AnswersFirstLines (bytes ++ rest) past
+first-standing bytes past refused reading state rest s = record {
   count = length (lines (whole bytes));
-  answers = past;
   refused = refused;
   last = state;
   conversation = rw (take-lines_append bytes rest) s.conversation;
-  front = (length past, sym (take_all (length past) past (omega arith)));
 }
 
 -- a front of an answer, behind the answers before it
-front-answer : (bytes past : List ℕ) (refused : Bool) (reading : Reading) (state last : State) (answer : List ℕ) (some : Bool) (n : ℕ) (all : List ℕ)
-    → (count : ℕ) → take count (lines all) ≡ lines (whole bytes) ++ shown (behind bytes) ∷ []
+front-answer : (bytes past : List ℕ) (refused : Bool) (reading : Reading) (state last : State) (answer : List ℕ) (some : Bool) (n : ℕ) (all : List ℕ) (count : ℕ)
+    → take count (lines all) ≡ lines (whole bytes) ++ shown (behind bytes) ∷ []
     → Stands bytes past refused reading state → Answers state (shown reading.held) answer some last
     → IsFrontOfTranscript all (past ++ take n answer)
 front-answer bytes past refused reading state last answer some n all count is s a = record {
-  count = count;
   answers = past ++ answer;
-  refused = refused || some;
-  last = last;
-  conversation = rw is (answered bytes past refused reading state last answer some s a);
+  answered = record {
+    count = count;
+    refused = refused || some;
+    last = last;
+    conversation = rw is (answered bytes past refused reading state last answer some s a);
+  };
   front = (length past + n, sym (take-append-add past answer n));
 }
 
@@ -131,7 +131,7 @@ bytes-newline before after old new state next line (Err NoMemory) h is a = recor
   text = [];
   added = a;
   advances = λ bytes past refused s rest.
-      rw (append-nil past, append_assoc bytes (10 ∷ []) rest) (front-standing bytes past refused old state (10 ∷ [] ++ rest) s);
+      rw (append-nil past, append_assoc bytes (10 ∷ []) rest) (first-standing bytes past refused old state (10 ∷ [] ++ rest) s);
 }
 
 -- the same of the byte as it was fed
@@ -193,8 +193,8 @@ end-line before after old state next line (Err NoMemory) some is a = record {
   text = [];
   added = a;
   completes = λ bytes past refused s.
-      let front : IsFrontOfTranscript (bytes ++ []) past = front-standing bytes past refused old state [] s in
-      rw (append-nil past) (rw append-nil at front);
+      let first : AnswersFirstLines (bytes ++ []) past = first-standing bytes past refused old state [] s in
+      rw (append-nil past) (rw append-nil at first);
 }
 
 -- the same of the end as it was told
@@ -239,10 +239,10 @@ bytes-stopped xs ys zs first second third some stop r₁ r₂ r₃ s₁ s₂ s�
   text = a.text ++ b.text;
   added = Appends-trans first second third a.text b.text a.added b.added;
   advances = λ bytes past refused s rest.
-      let front = b.advances (bytes ++ xs) (past ++ a.text) (refused || some) (a.advances bytes past refused s) (zs ++ rest) in
+      let stops = b.advances (bytes ++ xs) (past ++ a.text) (refused || some) (a.advances bytes past refused s) (zs ++ rest) in
       let all : (bytes ++ xs) ++ ys ++ (zs ++ rest) ≡ bytes ++ (xs ++ ys ++ zs) ++ rest = simp append_assoc in
       let texts : (past ++ a.text) ++ b.text ≡ past ++ (a.text ++ b.text) = append_assoc past a.text b.text in
-      subst (λ l. IsFrontOfTranscript l (past ++ (a.text ++ b.text))) all (subst (λ l. IsFrontOfTranscript ((bytes ++ xs) ++ ys ++ (zs ++ rest)) l) texts front);
+      subst (λ l. Stops stop l (past ++ (a.text ++ b.text))) all (subst (λ l. Stops stop ((bytes ++ xs) ++ ys ++ (zs ++ rest)) l) texts stops);
 }
 
 -- ---- the bytes of a piece

@@ -18,13 +18,17 @@ is_listed (word ∷ next ∷ more) = false
 abbrev pub script_limit : ℕ
 script_limit = 67108864
 
--- the text is a front of the answers to the first lines of the bytes
-pub record IsFrontOfTranscript (bytes text : List ℕ) : Type 0 where
+-- the text is the answers to the first lines of the bytes, however many they are
+pub record AnswersFirstLines (bytes text : List ℕ) : Type 0 where
   pub count : ℕ
-  pub answers : List ℕ
   pub refused : Bool
   pub last : State
-  pub conversation : Conversation empty_state (take count (lines bytes)) answers refused last
+  pub conversation : Conversation empty_state (take count (lines bytes)) text refused last
+
+-- the text is a front of such answers
+pub record IsFrontOfTranscript (bytes text : List ℕ) : Type 0 where
+  pub answers : List ℕ
+  pub answered : AnswersFirstLines bytes answers
   pub front : (n : ℕ) × (text ≡ take n answers)
 
 -- the text is a transcript of the bytes, refused or not
@@ -39,7 +43,7 @@ Leaves Usage bytes text left = (bytes ≡ []) × (text ≡ [])
 Leaves TooLong bytes text left = (script_limit < length bytes) × IsTranscript (whole (take script_limit bytes)) text
 Leaves ReadFault bytes text left = IsTranscript (whole bytes) text
 Leaves WriteFault bytes text left = IsFrontOfTranscript bytes text
-Leaves NoMemory bytes text left = IsFrontOfTranscript bytes text
+Leaves NoMemory bytes text left = AnswersFirstLines bytes text
 
 -- the run took bytes from what the source had left and added a text to what was written, as its status says
 pub record Runs (left_old left_new written_old written_new : Option (List ℕ)) (status : Status) : Type 0 where

@@ -7,7 +7,7 @@ use Rattle.uhura_text.specs.Reading.{Reading}
 use Rattle.uhura_veto.specs.State.{State}
 use Rattle.uhura_session.specs.Answers.{Answers, empty_state}
 use Rattle.uhura_session.specs.Transcript.{Conversation, Transcript}
-use Rattle.uhura.specs.Run.{IsFrontOfTranscript}
+use Rattle.uhura.specs.Run.{AnswersFirstLines, IsFrontOfTranscript}
 use Rattle.uhura.specs.declared.script.Stop.{Stop}
 use Rattle.uhura.specs.declared.script.Stop.TheVariants.{WriteFault, NoMemory}
 use Rattle.uhura.specs.declared.status.Status.{Status}
@@ -31,11 +31,15 @@ pub record Stands (bytes text : List ℕ) (refused : Bool) (reading : Reading) (
   pub held : reading.held ≡ take 4097 (behind bytes)
   pub conversation : Conversation empty_state (lines (whole bytes)) text refused state
 
--- after these more bytes: all stands answered, or what was written is a front of the transcript whatever bytes follow
+-- a run that stops: a write may have cut an answer short, and want of memory cuts none
+abbrev pub Stops : Stop → List ℕ → List ℕ → Type 0
+Stops WriteFault bytes text = IsFrontOfTranscript bytes text
+Stops NoMemory bytes text = AnswersFirstLines bytes text
+
+-- after these more bytes: all stands answered, or the run stopped, whatever bytes follow
 abbrev pub Advances : List ℕ → List ℕ → List ℕ → Bool → Result Bool Stop → Reading → State → Type 0
 Advances bytes more text refused (Ok some) reading state = Stands (bytes ++ more) text (refused || some) reading state
-Advances bytes more text refused (Err _) reading state =
-    (rest : List ℕ) → IsFrontOfTranscript (bytes ++ more ++ rest) text
+Advances bytes more text refused (Err why) reading state = (rest : List ℕ) → Stops why (bytes ++ more ++ rest) text
 
 -- more bytes were fed: they added a text to what was written, which goes on whatever stood answered before
 pub record AnswersBytes (more : List ℕ) (before after : Option (List ℕ)) (result : Result Bool Stop) (reading : Reading) (state : State) (reading' : Reading) (state' : State) : Type 0 where
@@ -44,10 +48,10 @@ pub record AnswersBytes (more : List ℕ) (before after : Option (List ℕ)) (re
   pub advances : (bytes past : List ℕ) (refused : Bool) → Stands bytes past refused reading state
       → Advances bytes more (past ++ text) refused result reading' state'
 
--- at the end of the input: the text is a transcript of all bytes, or a front of one
+-- at the end of the input: the text is a transcript of all bytes, or the run stopped
 abbrev pub Completes : List ℕ → List ℕ → Bool → Result Bool Stop → Type 0
 Completes bytes text refused (Ok some) = Transcript bytes text (refused || some)
-Completes bytes text refused (Err _) = IsFrontOfTranscript bytes text
+Completes bytes text refused (Err why) = Stops why bytes text
 
 -- the end of the input was told: it added a text to what was written, which completes whatever stood answered before
 pub record AnswersEnd (before after : Option (List ℕ)) (result : Result Bool Stop) (reading : Reading) (state : State) : Type 0 where
@@ -61,12 +65,12 @@ abbrev pub status_of : Stop → Status
 status_of WriteFault = status.WriteFault
 status_of NoMemory = status.NoMemory
 
--- at the end of the input, by the status: the text is a transcript of all bytes, refused or not, or a front of one
+-- at the end of the input, by the status: the text is a transcript of all bytes, refused or not, or the run stopped
 abbrev pub CompletesAs : List ℕ → List ℕ → Status → Type 0
 CompletesAs bytes text status.Done = Transcript bytes text false
 CompletesAs bytes text status.Refused = Transcript bytes text true
 CompletesAs bytes text status.WriteFault = IsFrontOfTranscript bytes text
-CompletesAs bytes text status.NoMemory = IsFrontOfTranscript bytes text
+CompletesAs bytes text status.NoMemory = AnswersFirstLines bytes text
 CompletesAs bytes text _ = ⊥
 
 -- the end of the input was told, and this is the run's status

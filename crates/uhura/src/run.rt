@@ -14,7 +14,8 @@ use uhura_text::Lines;
 /// Reads a script from the source and writes the answers to its lines, in order, to the sink.
 ///
 /// The words are none, or the one word `run`. Each read asks for 4,096 bytes, and the answers to all whole lines that
-/// were read are written before the next read. An answer is composed in memory before its first byte is written.
+/// were read are written before the next read. An answer is composed in memory before its first byte is written, so
+/// that want of memory cuts no answer short.
 pub fn run<S: Source, K: Sink>(
     alloc: Global,
     words: &Vec<String>,
