@@ -1,5 +1,5 @@
 -- The reading of a script piece by piece: what stands between two reads, and how a run ends.
-use Rattle.std.proofs.Common.{◌≡◌, ℕ, ◌+◌, ◌-◌, ◌^◌, ◌<◌, ◌≤◌, min, Bool, false, ◌||◌, List, [], ◌++◌, length, take, drop, Option, Ok, Err, refl, sym, ap, ◌∙◌, subst, arith, append-nil, append_assoc, length-append}
+use Rattle.std.proofs.Common.{◌≡◌, ℕ, ◌+◌, ◌-◌, ◌^◌, ◌<◌, ◌≤◌, min, Bool, false, ◌||◌, List, [], ◌++◌, length, take, drop, unwrap_or, Option, Some, None, Ok, Err, refl, sym, ap, ◌∙◌, subst, arith, append-nil, append_assoc, length-append}
 use Rattle.std.proofs.Math.Seq.{take-append-add}
 use Rattle.std.proofs.KnownBytes.{Appends-nil, Appends-trans, Consumes-nil, Consumes-trans, Consumes-kept}
 use Rattle.std.proofs.lemmas.List.{take-take, take-append-drop, length-take-le}
@@ -11,7 +11,7 @@ use Rattle.uhura_veto.specs.State.{State}
 use Rattle.uhura_session.specs.Answers.{empty_state}
 use Rattle.uhura_session.specs.Transcript.{Transcript}
 use Rattle.uhura_session.proofs.Conversing.{Conversation-nil}
-use Rattle.uhura.specs.Run.{script_limit, Leaves, Runs}
+use Rattle.uhura.specs.Run.{script_limit, all_bytes, AnswersFirstLines, IsFrontOfTranscript, Leaves, Runs}
 use Rattle.uhura.specs.Script.{Stops, Stands, AnswersBytes, EndsRun, CompletesAs, status_of}
 use Rattle.uhura.specs.declared.script.Stop.{Stop}
 use Rattle.uhura.specs.declared.script.Stop.TheVariants as stop
@@ -43,9 +43,14 @@ Going-start left written given reading state fresh begins = record {
 }
 
 -- a run that stopped leaves what its status says
-leaves-stopped : (why : Stop) (bytes text : List ℕ) (left : Option (List ℕ)) → Stops why bytes text → Leaves (status_of why) bytes text left
-leaves-stopped stop.WriteFault bytes text left s = s
-leaves-stopped stop.NoMemory bytes text left s = s
+leaves-stopped : (why : Stop) (bytes text : List ℕ) (left : Option (List ℕ)) → ((rest : List ℕ) → Stops why (bytes ++ rest) text) → Leaves (status_of why) bytes text left
+leaves-stopped stop.WriteFault bytes text left s = s (unwrap_or left [])
+leaves-stopped stop.NoMemory bytes text left s = s (unwrap_or left [])
+
+-- at the end of the input the bytes that were read are all
+all-at_end : (bytes : List ℕ) (left : Option (List ℕ)) → IsAtEnd left → bytes ≡ all_bytes bytes left
+all-at_end bytes None end = sym (append-nil bytes)
+all-at_end bytes (Some rest) end = sym (ap (λ l. bytes ++ l) end ∙ append-nil bytes)
 
 -- at the end of the input the run leaves what its status says
 leaves-completed : (result : Status) (bytes text : List ℕ) (left : Option (List ℕ)) → IsAtEnd left → length bytes ≤ script_limit
@@ -55,8 +60,8 @@ leaves-completed Refused bytes text left end within c = (end, within, c)
 leaves-completed Usage bytes text left end within c = absurd c
 leaves-completed TooLong bytes text left end within c = absurd c
 leaves-completed ReadFault bytes text left end within c = absurd c
-leaves-completed WriteFault bytes text left end within c = c
-leaves-completed NoMemory bytes text left end within c = c
+leaves-completed WriteFault bytes text left end within c = subst (λ l. IsFrontOfTranscript l text) (all-at_end bytes left end) c
+leaves-completed NoMemory bytes text left end within c = subst (λ l. AnswersFirstLines l text) (all-at_end bytes left end) c
 
 -- a piece that is within the limit was answered
 pub Going-more : {left left' left'' written written' written'' : Option (List ℕ)} {given given' given'' room : ℕ} {refused some : Bool} {reading reading' : Reading} {state state' : State}
@@ -83,7 +88,7 @@ Runs-read_fault g kept = record {
   text = g.text;
   taken = Consumes-kept _ _ _ g.bytes g.taken kept;
   added = g.added;
-  leaves = (_, record { last = _; conversation = g.stands.conversation });
+  leaves = (omega (arith, g.size), (_, record { last = _; conversation = g.stands.conversation }));
 }
 
 -- the run stopped in a piece: all of the piece was taken
@@ -97,8 +102,9 @@ Runs-stopped {left'' = left''} g buffer n k why within taken a =
     ap (λ l. l ++ drop k (take n buffer)) (sym (take-take k n buffer within)) ∙ take-append-drop k (take n buffer) in
     let all : g.bytes ++ take k buffer ++ drop k (take n buffer) ≡ g.bytes ++ take n buffer =
     append_assoc g.bytes (take k buffer) (drop k (take n buffer)) ∙ ap (λ l. g.bytes ++ l) split in
-    let stops : Stops why (g.bytes ++ take n buffer) (g.text ++ a.text) =
-    subst (λ l. Stops why l (g.text ++ a.text)) all (a.advances g.bytes g.text _ g.stands (drop k (take n buffer))) in
+    let stops : (rest : List ℕ) → Stops why (g.bytes ++ take n buffer ++ rest) (g.text ++ a.text) =
+    λ rest. subst (λ l. Stops why l (g.text ++ a.text)) (sym (append_assoc (g.bytes ++ take k buffer) (drop k (take n buffer)) rest) ∙ ap (λ l. l ++ rest) all)
+    (a.advances g.bytes g.text _ g.stands (drop k (take n buffer) ++ rest)) in
     record {
       bytes = g.bytes ++ take n buffer;
       text = g.text ++ a.text;

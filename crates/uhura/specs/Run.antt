@@ -1,5 +1,5 @@
 -- What a run of a script leaves, by its status.
-use Rattle.std.specs.Prelude.{◌≡◌, ℕ, ◌<◌, ◌≤◌, Bool, true, false, List, [], ◌∷◌, length, take, codes, bytes_eq, string_bytes, Option, String}
+use Rattle.std.specs.Prelude.{◌≡◌, ℕ, ◌<◌, ◌≤◌, Bool, true, false, List, [], ◌∷◌, ◌++◌, length, take, unwrap_or, codes, bytes_eq, string_bytes, Option, String}
 use Rattle.std.specs.Io.KnownBytes.{Appends, Consumes, IsAtEnd}
 use Rattle.uhura_text.specs.Lines.{lines, whole}
 use Rattle.uhura_veto.specs.State.{State}
@@ -35,15 +35,20 @@ pub record IsFrontOfTranscript (bytes text : List ℕ) : Type 0 where
 abbrev pub IsTranscript : List ℕ → List ℕ → Type 0
 IsTranscript bytes text = (refused : Bool) × Transcript bytes text refused
 
--- by the status: what the text that was written is of the bytes that were read, and what the source has left
+-- the bytes that were read, and behind them those that the source has left, where it tells them
+abbrev pub all_bytes : List ℕ → Option (List ℕ) → List ℕ
+all_bytes bytes left = bytes ++ unwrap_or left []
+
+-- by the status: what the text that was written is of the bytes that were read. A run that stops early has answered
+-- lines that end where they end in the whole script.
 abbrev pub Leaves : Status → List ℕ → List ℕ → Option (List ℕ) → Type 0
 Leaves Done bytes text left = IsAtEnd left × (length bytes ≤ script_limit) × Transcript bytes text false
 Leaves Refused bytes text left = IsAtEnd left × (length bytes ≤ script_limit) × Transcript bytes text true
 Leaves Usage bytes text left = (bytes ≡ []) × (text ≡ [])
 Leaves TooLong bytes text left = (script_limit < length bytes) × IsTranscript (whole (take script_limit bytes)) text
-Leaves ReadFault bytes text left = IsTranscript (whole bytes) text
-Leaves WriteFault bytes text left = IsFrontOfTranscript bytes text
-Leaves NoMemory bytes text left = AnswersFirstLines bytes text
+Leaves ReadFault bytes text left = (length bytes ≤ script_limit) × IsTranscript (whole bytes) text
+Leaves WriteFault bytes text left = IsFrontOfTranscript (all_bytes bytes left) text
+Leaves NoMemory bytes text left = AnswersFirstLines (all_bytes bytes left) text
 
 -- the run took bytes from what the source had left and added a text to what was written, as its status says
 pub record Runs (left_old left_new written_old written_new : Option (List ℕ)) (status : Status) : Type 0 where

@@ -29,7 +29,7 @@ pub fn run<S: Source, K: Sink>(
 
     // These two speak of a source that doesn't tell its bytes, too.
     ensures too_long { S.given source.old < 2 ^ 63 → result ≡ TooLong → S.given source.old + script_limit < S.given source.new }
-    ensures within { S.given source.old < 2 ^ 63 → (result ≡ Done) ⊎ (result ≡ Refused) → S.given source.new ≤ S.given source.old + script_limit }
+    ensures within { S.given source.old < 2 ^ 63 → (result ≡ Done) ⊎ (result ≡ Refused) ⊎ (result ≡ ReadFault) → S.given source.new ≤ S.given source.old + script_limit }
 
     ensures read_fault { result ≡ ReadFault → HasRisen (S.faults source.old) (S.faults source.new) }
     ensures write_fault { result ≡ WriteFault → HasRisen (K.faults sink.old) (K.faults sink.new) }

@@ -101,7 +101,7 @@ pub(crate) fn answer_script<S: Source, K: Sink>(
     ensures listed { result ≢ Usage }
     ensures bytes { Runs (S.left source.old) (S.left source.new) (K.written sink.old) (K.written sink.new) result }
     ensures too_long { S.given source.old < 2 ^ 63 → result ≡ TooLong → S.given source.old + script_limit < S.given source.new }
-    ensures within { S.given source.old < 2 ^ 63 → (result ≡ Done) ⊎ (result ≡ Refused) → S.given source.new ≤ S.given source.old + script_limit }
+    ensures within { S.given source.old < 2 ^ 63 → (result ≡ Done) ⊎ (result ≡ Refused) ⊎ (result ≡ ReadFault) → S.given source.new ≤ S.given source.old + script_limit }
     ensures read_fault { result ≡ ReadFault → HasRisen (S.faults source.old) (S.faults source.new) }
     ensures write_fault { result ≡ WriteFault → HasRisen (K.faults sink.old) (K.faults sink.new) }
     ensures source_faults { S.faults source.old ≤ S.faults source.new }

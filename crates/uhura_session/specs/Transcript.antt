@@ -4,7 +4,8 @@ use Rattle.uhura_text.specs.Lines.{lines}
 use Rattle.uhura_veto.specs.State.{State}
 use Rattle.uhura_session.specs.Answers.{Answers, empty_state}
 
--- the text is a line's answer and then the rest's, which begins in the state that the line left; some line was refused or none
+-- the text is a line's answer and then the rest's, which begins in the state that the line left; `refused` tells whether
+-- some line was refused
 pub record Turn (state : State) (line text : List ℕ) (refused : Bool) (Rest : State → List ℕ → Bool → Type 0) : Type 0 where
   pub answer : List ℕ
   pub answer_refused : Bool
@@ -22,7 +23,7 @@ Conversation state [] text refused last = (text ≡ []) × (refused ≡ false) �
 Conversation state (line ∷ ls) text refused last =
     Turn state line text refused (λ next after after_refused. Conversation next ls after after_refused last)
 
--- the text answers the lines of the bytes from the empty state on; some line was refused or none
+-- the text answers the lines of the bytes from the empty state on; `refused` tells whether some line was refused
 pub record Transcript (bytes text : List ℕ) (refused : Bool) : Type 0 where
   pub last : State
   pub conversation : Conversation empty_state (lines bytes) text refused last
