@@ -1,0 +1,3 @@
+pub mod Form
+pub mod Reads
+pub mod Parses
