@@ -8,7 +8,7 @@ use Rattle.uhura_command.specs.Form.{Word, Priced, Kind, requirement, duration, 
 use Rattle.uhura_command.specs.Form as form
 
 -- a word that differs from another one fails its test
-other_word : (word other : Word) → word ≢ other → bytes_eq word other ≡ false
+pub other_word : (word other : Word) → word ≢ other → bytes_eq word other ≡ false
 other_word word other differs = by_test (bytes_eq word other) refl
   where
     by_test : (test : Bool) → bytes_eq word other ≡ test → test ≡ false
