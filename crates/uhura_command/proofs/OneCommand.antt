@@ -1,5 +1,5 @@
 -- No form is of two commands: a command is read back from its form, and each form whose numbers and names are such is of one.
-use Rattle.std.proofs.Common.{◌≡◌, ◌≢◌, ℕ, zero, suc, cond, Bool, true, false, ◌&&◌, ◌||◌, List, [], ◌∷◌, map, ℤ, pos, negsuc, int_le, Option, Some, None, option_map, codes, bytes_eq, refl, ap, sym, subst, ◌∙◌}
+use Rattle.std.proofs.Common.{◌≡◌, ℕ, cond, Bool, true, false, ◌&&◌, ◌||◌, List, [], ◌∷◌, map, ℤ, pos, negsuc, int_le, Option, Some, None, option_map, codes, bytes_eq, refl, ap, sym, subst, ◌∙◌}
 use Rattle.std.specs.Option.{option_map_or}
 use Rattle.std.specs.List.{list_all}
 use Rattle.std.proofs.lemmas.Bool.{and_parts}
@@ -99,9 +99,6 @@ words-amounts_at (Some word) is = ap Some (word-count_at 0 (pos 1000000000) word
 
 price_at : Priced → Price
 price_at p = record { rate = count_at p.rate; most = option_map count_at p.most }
-
-are_priced : Option Priced → Bool
-are_priced p = option_map_or is_priced p true
 
 prices_at-words : (p : Option Price) → option_map_or is_priced (option_map priced_of p) true ≡ true → option_map price_at (option_map priced_of p) ≡ p
 unfolding price_at
@@ -264,3 +261,9 @@ some_command f taken numbers names =
         numbers = subst (λ (g : Form). has_numbers g ≡ true) (sym same) numbers;
       },
     )
+
+-- so words of such a form give a command
+pub some_command_of_line : (words : List Word) (f : Form) → IsForm words f → has_numbers f ≡ true → has_names f ≡ true → (c : Command) × IsForm words (form_of c) × IsCommand c
+some_command_of_line words f of_f numbers names =
+    let (c, same, is) = some_command f of_f.taken numbers names in
+    (c, subst (λ (g : Form). IsForm words g) (sym same) of_f, is)

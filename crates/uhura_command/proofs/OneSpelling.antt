@@ -1,8 +1,8 @@
 -- A number that is read from its spelling, within limits, is the number spelled.
-use Rattle.std.proofs.Common.{◌≡◌, ◌≢◌, codes, ℕ, zero, suc, cond, ◌==◌, ne_eqb, ◌+◌, ◌/◌, ◌%◌, ◌^◌, ◌<◌, ◌≤◌, Bool, true, false, ◌&&◌, List, [], ◌∷◌, length, ℤ, pos, negsuc, unsigned_abs, int_le, inl, inr, Option, Some, None, refl, ap, sym, subst, ◌∙◌, IsTrue, arith}
+use Rattle.std.proofs.Common.{◌≡◌, ◌≢◌, codes, ℕ, zero, suc, cond, ◌==◌, ne_eqb, ◌+◌, ◌/◌, ◌%◌, ◌^◌, ◌<◌, ◌≤◌, Bool, true, false, ◌&&◌, List, [], ◌∷◌, length, ℤ, pos, negsuc, unsigned_abs, int_le, inl, inr, Option, Some, None, refl, arith}
 use Rattle.std.specs.Option.{option_map_or}
 use Rattle.std.specs.Fmt.{decimal, digits, digits_onto, digit_glyph}
-use Rattle.std.proofs.lemmas.Bool.{cases_lt, and_parts}
+use Rattle.std.proofs.lemmas.Bool.{cases_lt}
 use Rattle.std.proofs.lemmas.Fmt.{length-decimal-le_wide}
 use Rattle.std.proofs.lemmas.Int.{ints}
 use Rattle.uhura_text.specs.Number.{number_of, spelling, is_magnitude}
@@ -37,6 +37,7 @@ many_digits (suc k) (suc turns) n rest h enough =
     pow-pos zero = omega arith
     pow-pos (suc k) = omega (arith, pow-pos k)
 
+-- so a number of more than 30 digits is long
 long_decimal : (n : ℕ) → 10 ^ 30 ≤ n → 30 < length (decimal n)
 unfolding digits
 long_decimal n h = many_digits 30 64 n [] h (omega arith)
@@ -52,10 +53,12 @@ short_spelling (negsuc n) short = elim (cases_lt (suc n) (10 ^ 30)) [
   | inr large ↦ absurd (omega (arith, long_decimal (suc n) large))
 ]
 
+-- a number of at most 10 digits is spelled so
 spelling-short : (z : ℤ) → unsigned_abs z ≤ 1000000000 → length (spelling z) ≤ 11
 spelling-short (pos n) small = omega (arith, length-decimal-le_wide 10 n (omega arith) (omega arith) (omega arith))
 spelling-short (negsuc n) small = omega (arith, length-decimal-le_wide 10 (suc n) (omega arith) (omega arith) (omega arith))
 
+-- the limits of a bound keep that
 in_limits : (z : ℤ) → (int_le (negsuc 999999999) z && int_le z (pos 1000000000)) ≡ true → unsigned_abs z ≤ 1000000000
 in_limits z h = grind (arith, ints)
 
@@ -74,6 +77,7 @@ is_spelled low high z limits is = by_read (number_of (spelling z)) refl is
         let short : length (spelling z) ≤ 11 = rw same (spelling-short y (limits.small y within)) in
         number_of-spelling z (short_spelling z short)
 
+-- the limits of bounds, of amounts and of rates
 pub bound_limits : AreLimits (negsuc 999999999) (pos 1000000000)
 bound_limits = record { small = in_limits }
 
@@ -83,6 +87,7 @@ amount_limits = record { small = λ z h. grind (arith, ints) }
 pub rate_limits : AreLimits (pos 1) (pos 1000000)
 rate_limits = record { small = λ z h. grind (arith, ints) }
 
+-- `-` is no number
 no_number : number_of (codes "-") ≡ None
 unfolding number_of is_magnitude
 no_number = refl
