@@ -1,0 +1,4 @@
+pub mod OneCommand
+pub mod OneForm
+pub mod OneSpelling
+pub mod Settled
