@@ -4,7 +4,9 @@
 mod command;
 mod literals;
 mod refusal;
+mod write;
 
 pub use command::{Command, ItemName};
 pub use literals::Literals;
 pub use refusal::LineRefusal;
+pub use write::write_command;
