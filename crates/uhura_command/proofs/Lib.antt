@@ -1,1 +1,3 @@
+pub mod FormWords
+pub mod ReadsBack
 pub mod Spacing

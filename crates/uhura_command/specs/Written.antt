@@ -24,3 +24,9 @@ pub record ReadsAs (line : List ℕ) (ws : List Word) : Type 0 where
   pub words_are : words line ≡ ws
   pub no_bad_byte : first_bad line ≡ None
   pub asks : is_quiet line ≡ false
+
+-- the text is one line with its newline, and the line is read as these words
+pub record IsLineOf (text : List ℕ) (ws : List Word) : Type 0 where
+  pub line : List ℕ
+  pub is_line : text ≡ line ++ codes "\n"
+  pub reads : ReadsAs line ws

@@ -5,7 +5,7 @@ ghost use Rattle.uhura_plan.specs.declared.key.Side.TheVariants.{Lower, Upper};
 ghost use Rattle.uhura_command.specs.Form as grammar;
 ghost use Rattle.uhura_command.specs.Form.{words_of, pair_words, guard_words, priced_words, price_words, set_words, rate_words, set_rate_words, side_word, kind_word};
 ghost use Rattle.uhura_command.specs.Reads.{form_of, bound_word, count_word, priced_of, alternative_pairs, kind_of, name_of, IsCommand};
-ghost use Rattle.uhura_command.specs.Written.{line_of, joined, spaced};
+ghost use Rattle.uhura_command.specs.Written.{line_of, joined, spaced, IsLineOf};
 
 use crate::{Command, ItemName, Literals};
 use std::alloc::AllocError;
@@ -482,9 +482,11 @@ fn put_line(line: &mut Vec<u8>, command: &Command) -> Result<(), AllocError>
 }
 
 /// Appends the line of a command: its words separated by one space, with a newline behind them.
+#[tactic(auto, using(crate::proofs::FormWords::command_read_back))]
 pub fn write_command(out: &mut Vec<u8>, command: &Command) -> Result<(), AllocError>
     requires { IsCommand command.now }
     ensures ok { OnOk result (out.new.items ≡ out.old.items ++ line_of (words_of (form_of command.now))) }
+    ensures reads_back { IsLineOf (line_of (words_of (form_of command.now))) (words_of (form_of command.now)) }
     ensures err { OnErr result (out.new.items ≡ out.old.items) }
 {
     let mut line = Vec::new(out.allocator().clone()?);
