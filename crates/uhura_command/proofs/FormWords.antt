@@ -1,6 +1,6 @@
 -- The words of a form whose names and numbers are such are words that a line may hold.
-use Rattle.std.proofs.Common.{◌≡◌, ℕ, ◌+◌, ◌<◌, ◌≤◌, ℤ, pos, negsuc, Bool, true, false, cond, not, ◌||◌, ◌&&◌, List, [], ◌∷◌, ◌++◌, length, drop, eqb, leb, get_or, Option, Some, None, bytes_eq, refl, ap, sym, subst, ◌∙◌, arith, leb-true, le-leb, ltb, ltb-true, true≢false}
-use Rattle.std.specs.Prelude.{codes, IsTrue, int_le}
+use Rattle.std.proofs.Common.{◌≡◌, ℕ, ◌<◌, ◌≤◌, ℤ, pos, negsuc, Bool, true, false, cond, not, ◌||◌, ◌&&◌, List, [], ◌∷◌, ◌++◌, length, drop, eqb, leb, get_or, Option, Some, None, bytes_eq, refl, sym, subst, arith, le-leb, ltb, ltb-true, true≢false}
+use Rattle.std.specs.Prelude.{codes, int_le}
 use Rattle.std.specs.List.{AllByRecursion, list_all}
 use Rattle.std.specs.Option.{option_map_or}
 use Rattle.std.specs.Char.{is_ascii_digit}

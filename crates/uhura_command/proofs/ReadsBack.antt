@@ -1,6 +1,5 @@
 -- A line of words that are separated by one space is read as these words.
-use Rattle.std.proofs.Common.{◌≡◌, ℕ, ◌+◌, ◌<◌, ◌≤◌, Bool, true, false, not, ◌||◌, ◌&&◌, List, [], ◌∷◌, ◌++◌, length, filter, ltb, eqb, leb, get_or, position, find, Option, Some, None, refl, ap, sym, ◌∙◌, arith, append_assoc, lt-ltb, leb-true, ne_eqb}
-use Rattle.std.specs.Prelude.{codes, IsTrue, ⊤}
+use Rattle.std.proofs.Common.{◌≡◌, ℕ, ◌<◌, ◌≤◌, Bool, true, false, not, ◌||◌, List, [], ◌∷◌, ◌++◌, length, filter, ltb, eqb, leb, get_or, None, refl, ap, ◌∙◌, arith, lt-ltb, leb-true, ne_eqb}
 use Rattle.std.specs.List.{slice_split, All, AllByRecursion, list_all, list_any}
 use Rattle.std.proofs.lemmas.Bool.{and_parts}
 use Rattle.std.proofs.lemmas.List.{append-nil}
