@@ -1,4 +1,7 @@
+pub mod FormWords
 pub mod OneCommand
 pub mod OneForm
 pub mod OneSpelling
+pub mod ReadsBack
 pub mod Settled
+pub mod Spacing

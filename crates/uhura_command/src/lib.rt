@@ -5,7 +5,9 @@ mod command;
 pub mod law;
 mod literals;
 mod refusal;
+mod write;
 
 pub use command::{Command, ItemName};
 pub use literals::Literals;
 pub use refusal::LineRefusal;
+pub use write::write_command;
