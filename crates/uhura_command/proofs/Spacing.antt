@@ -12,6 +12,10 @@ pub spaced-append : (xs ys : List Word) → spaced (xs ++ ys) ≡ spaced xs ++ s
 spaced-append [] ys = refl
 spaced-append (x ∷ xs) ys = ap (λ more. (codes " " ++ x) ++ more) (spaced-append xs ys) ∙ sym (append_assoc (codes " " ++ x) (spaced xs) (spaced ys))
 
+-- words behind joined words
+pub joined-append : (w : Word) (ws vs : List Word) → joined ((w ∷ ws) ++ vs) ≡ joined (w ∷ ws) ++ spaced vs
+joined-append w ws vs = ap (λ more. w ++ more) (spaced-append ws vs) ∙ sym (append_assoc w (spaced ws) (spaced vs))
+
 -- a line is its joined words with a newline behind them
 pub line_of-joined : (ws : List Word) → line_of ws ≡ joined ws ++ codes "\n"
 line_of-joined [] = refl
@@ -45,4 +49,5 @@ alternatives_more alternatives i a within is =
 -- for the functions that write several words
 pub ruleset spacing = (spaced-append)
 
+-- for the function that writes the whole line
 pub ruleset lines = (line_of-joined)

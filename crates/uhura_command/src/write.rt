@@ -260,7 +260,8 @@ fn put_between(
     ensures { IfOk result (λ _. line.new.items ≡ line.old.items ++ joined (verb.now ∷ name ∷ ends.0 ∷ ends.1 ∷ [])) }
 {
     put_named(line, verb, name)?;
-    put_pair(line, &ends)
+    put_pair(line, &ends)?;
+    Ok(())
 }
 
 /// Appends a bound of a requirement.
