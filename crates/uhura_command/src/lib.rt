@@ -3,6 +3,7 @@
 
 mod command;
 mod literals;
+mod parsing;
 mod refusal;
 
 pub use command::{Command, ItemName};

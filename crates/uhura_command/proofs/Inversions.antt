@@ -1,0 +1,74 @@
+-- What the words behind a verb are, where they are of a form.
+use Rattle.std.proofs.Common.{◌≡◌, ℕ, Bool, true, false, List, [], ◌∷◌, ◌++◌, length, Option, Some, None, bytes_eq, codes, refl, ap, sym, ◌∙◌, arith, true≢false}
+use Rattle.std.proofs.lemmas.Slice.Eq.{bytes_eq-Decides}
+use Rattle.uhura_plan.specs.declared.key.Side.{Side}
+use Rattle.uhura_command.specs.Form.{Word, Priced, Kind, Form, event, uncertain, choice, require, drop, bound, price, rate, range, prefer, deny, cap, withdraw, show, propose, prove, side_word, kind_word, words_of, IsForm}
+
+-- the first word, and those behind it
+abbrev pub head : List Word → Word
+head [] = []
+head (word ∷ more) = word
+
+abbrev pub tail : List Word → List Word
+tail [] = []
+tail (word ∷ more) = more
+
+-- two lines with different first words aren't one
+pub differ : (v w : Word) (rest more : List Word) → v ∷ rest ≡ w ∷ more → bytes_eq v w ≡ false → ⊥
+differ v w rest more e unlike =
+    let same : v ≡ w = ap head e in
+    true≢false (sym ((bytes_eq-Decides v w).1 same) ∙ unlike)
+
+-- how many words stand behind the verbs that always have as many
+pub event_size : (rest : List Word) (f : Form) → IsForm (codes "event" ∷ rest) f → length rest ≡ 1
+event_size rest (event n) h = ap (λ l. length (tail l)) h.words_are
+event_size rest _ h = absurd (differ (codes "event") _ _ _ h.words_are refl)
+
+pub drop_size : (rest : List Word) (f : Form) → IsForm (codes "drop" ∷ rest) f → length rest ≡ 1
+drop_size rest (drop n) h = ap (λ l. length (tail l)) h.words_are
+drop_size rest _ h = absurd (differ (codes "drop") _ _ _ h.words_are refl)
+
+pub withdraw_size : (rest : List Word) (f : Form) → IsForm (codes "withdraw" ∷ rest) f → length rest ≡ 1
+withdraw_size rest (withdraw n) h = ap (λ l. length (tail l)) h.words_are
+withdraw_size rest _ h = absurd (differ (codes "withdraw") _ _ _ h.words_are refl)
+
+pub show_size : (rest : List Word) (f : Form) → IsForm (codes "show" ∷ rest) f → length rest ≡ 0
+show_size rest show h = ap (λ l. length (tail l)) h.words_are
+show_size rest _ h = absurd (differ (codes "show") _ _ _ h.words_are refl)
+
+pub propose_size : (rest : List Word) (f : Form) → IsForm (codes "propose" ∷ rest) f → length rest ≡ 0
+propose_size rest propose h = ap (λ l. length (tail l)) h.words_are
+propose_size rest _ h = absurd (differ (codes "propose") _ _ _ h.words_are refl)
+
+pub prove_size : (rest : List Word) (f : Form) → IsForm (codes "prove" ∷ rest) f → length rest ≡ 0
+prove_size rest prove h = ap (λ l. length (tail l)) h.words_are
+prove_size rest _ h = absurd (differ (codes "prove") _ _ _ h.words_are refl)
+
+pub range_size : (rest : List Word) (f : Form) → IsForm (codes "range" ∷ rest) f → length rest ≡ 3
+range_size rest (range n lo hi) h = ap (λ l. length (tail l)) h.words_are
+range_size rest _ h = absurd (differ (codes "range") _ _ _ h.words_are refl)
+
+pub prefer_size : (rest : List Word) (f : Form) → IsForm (codes "prefer" ∷ rest) f → length rest ≡ 3
+prefer_size rest (prefer c a cost) h = ap (λ l. length (tail l)) h.words_are
+prefer_size rest _ h = absurd (differ (codes "prefer") _ _ _ h.words_are refl)
+
+pub bound_size : (rest : List Word) (f : Form) → IsForm (codes "bound" ∷ rest) f → length rest ≡ 3
+bound_size rest (bound n side b) h = ap (λ l. length (tail l)) h.words_are
+bound_size rest _ h = absurd (differ (codes "bound") _ _ _ h.words_are refl)
+
+pub cap_size : (rest : List Word) (f : Form) → IsForm (codes "cap" ∷ rest) f → length rest ≡ 5
+cap_size rest (cap v kind n side units) h = ap (λ l. length (tail l)) h.words_are
+cap_size rest _ h = absurd (differ (codes "cap") _ _ _ h.words_are refl)
+
+-- the fixed words at their places
+pub bound_side : (n s b : Word) (f : Form) → IsForm (codes "bound" ∷ n ∷ s ∷ b ∷ []) f → (side : Side) × (s ≡ side_word side)
+bound_side n s b (bound m side c) h = (side, ap (λ l. head (tail (tail l))) h.words_are)
+bound_side n s b _ h = absurd (differ (codes "bound") _ _ _ h.words_are refl)
+
+pub cap_kind : (v k n s u : Word) (f : Form) → IsForm (codes "cap" ∷ v ∷ k ∷ n ∷ s ∷ u ∷ []) f → (kind : Kind) × (k ≡ kind_word kind)
+cap_kind v k n s u (cap w kind m side c) h = (kind, ap (λ l. head (tail (tail l))) h.words_are)
+cap_kind v k n s u _ h = absurd (differ (codes "cap") _ _ _ h.words_are refl)
+
+pub cap_side : (v k n s u : Word) (f : Form) → IsForm (codes "cap" ∷ v ∷ k ∷ n ∷ s ∷ u ∷ []) f → (side : Side) × (s ≡ side_word side)
+cap_side v k n s u (cap w kind m side c) h = (side, ap (λ l. head (tail (tail (tail (tail l))))) h.words_are)
+cap_side v k n s u _ h = absurd (differ (codes "cap") _ _ _ h.words_are refl)

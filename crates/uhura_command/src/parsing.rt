@@ -1,0 +1,2 @@
+//! The command that a line gives.
+mod places;
