@@ -1,2 +1,4 @@
 //! The command that a line gives.
+mod count;
 mod places;
+mod single;

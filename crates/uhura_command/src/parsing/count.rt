@@ -1,0 +1,36 @@
+//! The words behind a verb, where there are as many as its form has.
+ghost use Rattle.std.specs.Prelude.{◌≡◌, ◌≢◌, [], ◌∷◌, length, true, false, IfSome, IfNone, IsTrue, IsFalse};
+
+use uhura_text::Words;
+
+/// Whether there is no word.
+pub(crate) fn is_end(mut words: Words<'_>) -> bool
+    ensures yes { result ≡ true → words.entry ≡ [] }
+    ensures no { result ≡ false → length words.entry ≢ 0 }
+{
+    words.next().is_none()
+}
+
+/// The word, where there is just one.
+pub(crate) fn one<'a>(mut words: Words<'a>) -> Option<&'a [u8]>
+    ensures none { IfNone result (length words.entry ≢ 1) }
+    ensures some { IfSome result (λ word. words.entry ≡ word.now ∷ []) }
+{
+    let word = words.next()?;
+    if is_end(words) { Some(word) } else { None }
+}
+
+/// The words, where there are just three.
+pub(crate) fn three<'a>(mut words: Words<'a>) -> Option<(&'a [u8], &'a [u8], &'a [u8])>
+    ensures none { IfNone result (length words.entry ≢ 3) }
+    ensures some { IfSome result (λ w. words.entry ≡ w.0.now ∷ w.1.now ∷ w.2.now ∷ []) }
+{
+    let first = words.next()?;
+    let second = words.next()?;
+    let third = words.next()?;
+    if is_end(words) {
+        Some((first, second, third))
+    } else {
+        None
+    }
+}
