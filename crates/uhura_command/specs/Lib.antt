@@ -1,3 +1,4 @@
 pub mod Form
 pub mod Reads
 pub mod Parses
+pub mod Kinds

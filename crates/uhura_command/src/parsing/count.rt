@@ -34,3 +34,18 @@ pub(crate) fn three<'a>(mut words: Words<'a>) -> Option<(&'a [u8], &'a [u8], &'a
         None
     }
 }
+
+/// The words, where there are just five.
+pub(crate) fn five<'a>(
+    mut words: Words<'a>,
+) -> Option<(&'a [u8], &'a [u8], &'a [u8], &'a [u8], &'a [u8])>
+    ensures none { IfNone result (length words.entry ≢ 5) }
+    ensures some { IfSome result (λ w. words.entry ≡ w.0.now ∷ w.1.now ∷ w.2.now ∷ w.3.now ∷ w.4.now ∷ []) }
+{
+    let first = words.next()?;
+    let second = words.next()?;
+    match three(words) {
+        Some((third, fourth, fifth)) => Some((first, second, third, fourth, fifth)),
+        None => None,
+    }
+}

@@ -24,11 +24,7 @@ pub(crate) fn two_names(first: &[u8], second: &[u8]) -> Option<(Name, Name)>
 }
 
 /// Three names.
-pub(crate) fn three_names(
-    first: &[u8],
-    second: &[u8],
-    third: &[u8],
-) -> Option<(Name, Name, Name)>
+pub(crate) fn three_names(first: &[u8], second: &[u8], third: &[u8]) -> Option<(Name, Name, Name)>
     ensures none { IfNone result ((is_name first.now && is_name second.now && is_name third.now) ≡ false) }
     ensures first { IfSome result (λ names. first.now ≡ names.0) }
     ensures second { IfSome result (λ names. second.now ≡ names.1) }
