@@ -1,8 +1,8 @@
 -- What the words behind a verb are, where they are of a form.
-use Rattle.std.proofs.Common.{◌≡◌, ℕ, Bool, true, false, List, [], ◌∷◌, ◌++◌, length, Option, Some, None, bytes_eq, codes, refl, ap, sym, ◌∙◌, arith, true≢false}
+use Rattle.std.proofs.Common.{◌≡◌, ℕ, ◌+◌, ◌≤◌, Bool, true, false, List, [], ◌∷◌, ◌++◌, length, Option, Some, None, bytes_eq, codes, refl, ap, sym, ◌∙◌, arith, true≢false}
 use Rattle.std.proofs.lemmas.Slice.Eq.{bytes_eq-Decides}
 use Rattle.uhura_plan.specs.declared.key.Side.{Side}
-use Rattle.uhura_command.specs.Form.{Word, Priced, Kind, Form, event, uncertain, choice, require, drop, bound, price, rate, range, prefer, deny, cap, withdraw, show, propose, prove, side_word, kind_word, words_of, IsForm}
+use Rattle.uhura_command.specs.Form.{Word, Priced, Kind, Form, event, uncertain, choice, require, drop, bound, price, rate, range, prefer, deny, cap, withdraw, show, propose, prove, side_word, kind_word, optional, set_words, set_rate_words, requirement, duration, words_of, IsForm}
 
 -- the first word, and those behind it
 abbrev pub head : List Word → Word
@@ -72,3 +72,54 @@ cap_kind v k n s u _ h = absurd (differ (codes "cap") _ _ _ h.words_are refl)
 pub cap_side : (v k n s u : Word) (f : Form) → IsForm (codes "cap" ∷ v ∷ k ∷ n ∷ s ∷ u ∷ []) f → (side : Side) × (s ≡ side_word side)
 cap_side v k n s u (cap w kind m side c) h = (side, ap (λ l. head (tail (tail (tail (tail l))))) h.words_are)
 cap_side v k n s u _ h = absurd (differ (codes "cap") _ _ _ h.words_are refl)
+
+-- `price` names a kind first
+pub price_size : (f : Form) → IsForm (codes "price" ∷ []) f → ⊥
+price_size (price n side p) h = let e : 0 ≡ length (codes "require" ∷ n ∷ side_word side ∷ set_words p) = ap (λ l. length (tail l)) h.words_are in omega arith
+price_size (rate n side r) h = let e : 0 ≡ length (codes "uncertain" ∷ n ∷ side_word side ∷ set_rate_words r) = ap (λ l. length (tail l)) h.words_are in omega arith
+price_size _ h = differ (codes "price") _ _ _ h.words_are refl
+
+pub price_kind : (k : Word) (rest : List Word) (f : Form) → IsForm (codes "price" ∷ k ∷ rest) f → (kind : Kind) × (k ≡ kind_word kind)
+price_kind k rest (price n side p) h = (requirement, ap (λ l. head (tail l)) h.words_are)
+price_kind k rest (rate n side r) h = (duration, ap (λ l. head (tail l)) h.words_are)
+price_kind k rest _ h = absurd (differ (codes "price") _ _ _ h.words_are refl)
+
+-- behind `price require`
+optional-few : (word : Option Word) → length (optional word) ≤ 1
+optional-few None = omega arith
+optional-few (Some word) = omega arith
+
+set_words-few : (p : Option Priced) → (1 ≤ length (set_words p)) × (length (set_words p) ≤ 2)
+set_words-few None = (omega arith, omega arith)
+set_words-few (Some p) = let few = optional-few p.most in (omega arith, omega arith)
+
+pub price_words_size : (rest : List Word) (f : Form) → IsForm (codes "price" ∷ codes "require" ∷ rest) f → (3 ≤ length rest) × (length rest ≤ 4)
+price_words_size rest (price n side p) h =
+    let e : length rest ≡ length (n ∷ side_word side ∷ set_words p) = ap (λ l. length (tail (tail l))) h.words_are in
+    let few = set_words-few p in
+    (omega (arith, few.0), omega (arith, few.1))
+price_words_size rest (rate n side r) h = absurd (differ (codes "require") _ _ _ (ap tail h.words_are) refl)
+price_words_size rest _ h = absurd (differ (codes "price") _ _ _ h.words_are refl)
+
+pub price_side : (n s : Word) (more : List Word) (f : Form) → IsForm (codes "price" ∷ codes "require" ∷ n ∷ s ∷ more) f → (side : Side) × (s ≡ side_word side)
+price_side n s more (price m side p) h = (side, ap (λ l. head (tail (tail (tail l)))) h.words_are)
+price_side n s more (rate m side r) h = absurd (differ (codes "require") _ _ _ (ap tail h.words_are) refl)
+price_side n s more _ h = absurd (differ (codes "price") _ _ _ h.words_are refl)
+
+-- behind `price uncertain`
+set_rate_words-one : (r : Option Word) → length (set_rate_words r) ≡ 1
+set_rate_words-one None = refl
+set_rate_words-one (Some w) = refl
+
+pub rate_size : (rest : List Word) (f : Form) → IsForm (codes "price" ∷ codes "uncertain" ∷ rest) f → length rest ≡ 3
+rate_size rest (rate n side r) h =
+    let e : length rest ≡ length (n ∷ side_word side ∷ set_rate_words r) = ap (λ l. length (tail (tail l))) h.words_are in
+    let one = set_rate_words-one r in
+    omega (arith, one)
+rate_size rest (price n side p) h = absurd (differ (codes "uncertain") _ _ _ (ap tail h.words_are) refl)
+rate_size rest _ h = absurd (differ (codes "price") _ _ _ h.words_are refl)
+
+pub rate_side : (n s : Word) (more : List Word) (f : Form) → IsForm (codes "price" ∷ codes "uncertain" ∷ n ∷ s ∷ more) f → (side : Side) × (s ≡ side_word side)
+rate_side n s more (rate m side r) h = (side, ap (λ l. head (tail (tail (tail l)))) h.words_are)
+rate_side n s more (price m side p) h = absurd (differ (codes "uncertain") _ _ _ (ap tail h.words_are) refl)
+rate_side n s more _ h = absurd (differ (codes "price") _ _ _ h.words_are refl)

@@ -5,3 +5,4 @@ pub mod BoundLemmas
 pub mod RangeLemmas
 pub mod PreferLemmas
 pub mod CapLemmas
+pub mod PriceLemmas

@@ -3,6 +3,8 @@ mod cap;
 mod count;
 mod kind;
 mod places;
+mod price;
+mod priced;
 mod several;
 mod single;
 mod values;

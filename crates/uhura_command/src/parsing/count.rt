@@ -1,6 +1,8 @@
 //! The words behind a verb, where there are as many as its form has.
-ghost use Rattle.std.specs.Prelude.{◌≡◌, ◌≢◌, [], ◌∷◌, length, true, false, IfSome, IfNone, IsTrue, IsFalse};
+ghost use Rattle.std.specs.Prelude.{◌≡◌, ◌≢◌, ◌≤◌, [], ◌∷◌, length, true, false, IfSome, IfNone};
+ghost use Rattle.uhura_command.specs.Form.{priced_words};
 
+use super::priced::PricedWords;
 use uhura_text::Words;
 
 /// Whether there is no word.
@@ -47,5 +49,32 @@ pub(crate) fn five<'a>(
     match three(words) {
         Some((third, fourth, fifth)) => Some((first, second, third, fourth, fifth)),
         None => None,
+    }
+}
+
+/// The words, where there are three or four.
+pub(crate) fn three_or_four<'a>(
+    mut words: Words<'a>,
+) -> Option<(&'a [u8], &'a [u8], PricedWords<'a>)>
+    ensures few { IfNone result (3 ≤ length words.entry → length words.entry ≤ 4 → ⊥) }
+    ensures some { IfSome result (λ w. words.entry ≡ w.0.now ∷ w.1.now ∷ priced_words w.2) }
+{
+    let first = words.next()?;
+    let second = words.next()?;
+    let rate = words.next()?;
+    let Some(most) = words.next() else {
+        return Some((first, second, PricedWords { rate, most: None }));
+    };
+    if is_end(words) {
+        Some((
+            first,
+            second,
+            PricedWords {
+                rate,
+                most: Some(most),
+            },
+        ))
+    } else {
+        None
     }
 }
