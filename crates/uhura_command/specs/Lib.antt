@@ -2,3 +2,4 @@ pub mod Form
 pub mod Reads
 pub mod Parses
 pub mod Kinds
+pub mod Tails

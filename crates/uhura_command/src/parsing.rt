@@ -5,6 +5,7 @@ mod kind;
 mod places;
 mod price;
 mod priced;
+mod rates;
 mod several;
 mod single;
 mod values;

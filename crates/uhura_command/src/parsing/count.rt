@@ -78,3 +78,18 @@ pub(crate) fn three_or_four<'a>(
         None
     }
 }
+
+/// The next five words.
+pub(crate) fn next_five<'a>(
+    words: &mut Words<'a>,
+) -> Option<(&'a [u8], &'a [u8], &'a [u8], &'a [u8], &'a [u8])>
+    ensures none { IfNone result (5 ≤ length words.old → ⊥) }
+    ensures some { IfSome result (λ w. words.old ≡ w.0.now ∷ w.1.now ∷ w.2.now ∷ w.3.now ∷ w.4.now ∷ words.new) }
+{
+    let first = words.next()?;
+    let second = words.next()?;
+    let third = words.next()?;
+    let fourth = words.next()?;
+    let fifth = words.next()?;
+    Some((first, second, third, fourth, fifth))
+}

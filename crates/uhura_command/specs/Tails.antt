@@ -1,0 +1,12 @@
+-- The parts at the end of a line that may be missing, as a reader finds them.
+use Rattle.std.specs.Prelude.{Bool, ◌&&◌, if◌then◌else◌, List, [], ◌∷◌, Option, Some, None, bytes_eq, codes}
+use Rattle.uhura_command.specs.Form.{Word}
+
+-- the word of the lower and the word of the upper rate, where the words are such
+abbrev pub rates_of : List Word → Option (Option Word × Option Word)
+rates_of [] = Some (None, None)
+rates_of (s ∷ []) = None
+rates_of (s ∷ w ∷ []) = if bytes_eq s (codes "lower") then Some (Some w, None) else if bytes_eq s (codes "upper") then Some (None, Some w) else None
+rates_of (s ∷ w ∷ u ∷ []) = None
+rates_of (s ∷ w ∷ u ∷ x ∷ []) = if bytes_eq s (codes "lower") && bytes_eq u (codes "upper") then Some (Some w, Some x) else None
+rates_of (s ∷ w ∷ u ∷ x ∷ y ∷ more) = None
