@@ -2,7 +2,8 @@
 use Rattle.std.proofs.Common.{◌≡◌, ℕ, ◌+◌, ◌≤◌, Bool, true, false, List, [], ◌∷◌, ◌++◌, length, Option, Some, None, bytes_eq, codes, refl, ap, sym, ◌∙◌, arith, true≢false}
 use Rattle.std.proofs.lemmas.Slice.Eq.{bytes_eq-Decides}
 use Rattle.uhura_plan.specs.declared.key.Side.{Side}
-use Rattle.uhura_command.specs.Form.{Word, Priced, Kind, Form, event, uncertain, choice, require, drop, bound, price, rate, range, prefer, deny, cap, withdraw, show, propose, prove, side_word, kind_word, optional, set_words, set_rate_words, requirement, duration, words_of, IsForm}
+use Rattle.uhura_plan.specs.declared.key.Side.TheVariants.{Lower, Upper}
+use Rattle.uhura_command.specs.Form.{Word, Priced, Kind, Form, event, uncertain, choice, require, drop, bound, price, rate, range, prefer, deny, cap, withdraw, show, propose, prove, side_word, kind_word, rate_words, optional, set_words, set_rate_words, requirement, duration, words_of, IsForm}
 
 -- the first word, and those behind it
 abbrev pub head : List Word → Word
@@ -123,3 +124,14 @@ pub rate_side : (n s : Word) (more : List Word) (f : Form) → IsForm (codes "pr
 rate_side n s more (rate m side r) h = (side, ap (λ l. head (tail (tail (tail l)))) h.words_are)
 rate_side n s more (price m side p) h = absurd (differ (codes "uncertain") _ _ _ (ap tail h.words_are) refl)
 rate_side n s more _ h = absurd (differ (codes "price") _ _ _ h.words_are refl)
+
+-- `uncertain` has five words, and then the rates
+pub uncertain_size : (rest : List Word) (f : Form) → IsForm (codes "uncertain" ∷ rest) f → 5 ≤ length rest
+uncertain_size rest (uncertain n start end lo hi lower upper) h =
+    let e : length rest ≡ length (n ∷ start ∷ end ∷ lo ∷ hi ∷ rate_words Lower lower ++ rate_words Upper upper) = ap (λ l. length (tail l)) h.words_are in
+    omega arith
+uncertain_size rest _ h = absurd (differ (codes "uncertain") _ _ _ h.words_are refl)
+
+pub uncertain_rates : (n start end lo hi : Word) (more : List Word) (f : Form) → IsForm (codes "uncertain" ∷ n ∷ start ∷ end ∷ lo ∷ hi ∷ more) f → (lower : Option Word) × (upper : Option Word) × (more ≡ rate_words Lower lower ++ rate_words Upper upper)
+uncertain_rates n start end lo hi more (uncertain m s e l u lower upper) h = (lower, upper, ap (λ l. tail (tail (tail (tail (tail (tail l)))))) h.words_are)
+uncertain_rates n start end lo hi more _ h = absurd (differ (codes "uncertain") _ _ _ h.words_are refl)

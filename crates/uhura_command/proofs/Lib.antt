@@ -6,3 +6,4 @@ pub mod RangeLemmas
 pub mod PreferLemmas
 pub mod CapLemmas
 pub mod PriceLemmas
+pub mod UncertainLemmas

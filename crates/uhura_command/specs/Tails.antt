@@ -1,5 +1,5 @@
 -- The parts at the end of a line that may be missing, as a reader finds them.
-use Rattle.std.specs.Prelude.{Bool, ◌&&◌, if◌then◌else◌, List, [], ◌∷◌, Option, Some, None, bytes_eq, codes}
+use Rattle.std.specs.Prelude.{Bool, true, false, ◌&&◌, if◌then◌else◌, List, [], ◌∷◌, Option, Some, None, bytes_eq, codes}
 use Rattle.uhura_command.specs.Form.{Word}
 
 -- the word of the lower and the word of the upper rate, where the words are such
@@ -10,3 +10,8 @@ rates_of (s ∷ w ∷ []) = if bytes_eq s (codes "lower") then Some (Some w, Non
 rates_of (s ∷ w ∷ u ∷ []) = None
 rates_of (s ∷ w ∷ u ∷ x ∷ []) = if bytes_eq s (codes "lower") && bytes_eq u (codes "upper") then Some (Some w, Some x) else None
 rates_of (s ∷ w ∷ u ∷ x ∷ y ∷ more) = None
+
+-- the next word is this one
+abbrev pub begins_with : Word → List Word → Bool
+begins_with fixed [] = false
+begins_with fixed (word ∷ more) = bytes_eq word fixed

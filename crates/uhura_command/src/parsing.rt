@@ -1,4 +1,5 @@
 //! The command that a line gives.
+mod ahead;
 mod cap;
 mod count;
 mod kind;
@@ -8,4 +9,5 @@ mod priced;
 mod rates;
 mod several;
 mod single;
+mod uncertain;
 mod values;
