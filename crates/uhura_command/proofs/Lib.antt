@@ -7,3 +7,4 @@ pub mod PreferLemmas
 pub mod CapLemmas
 pub mod PriceLemmas
 pub mod UncertainLemmas
+pub mod Pairing

@@ -3,3 +3,4 @@ pub mod Reads
 pub mod Parses
 pub mod Kinds
 pub mod Tails
+pub mod Pairs

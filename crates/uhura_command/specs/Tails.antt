@@ -1,5 +1,5 @@
 -- The parts at the end of a line that may be missing, as a reader finds them.
-use Rattle.std.specs.Prelude.{Bool, true, false, ◌&&◌, if◌then◌else◌, List, [], ◌∷◌, Option, Some, None, bytes_eq, codes}
+use Rattle.std.specs.Prelude.{Bool, true, false, ◌&&◌, if◌then◌else◌, List, [], ◌∷◌, Option, Some, None, option_map, bytes_eq, codes}
 use Rattle.uhura_command.specs.Form.{Word}
 
 -- the word of the lower and the word of the upper rate, where the words are such
@@ -15,3 +15,9 @@ rates_of (s ∷ w ∷ u ∷ x ∷ y ∷ more) = None
 abbrev pub begins_with : Word → List Word → Bool
 begins_with fixed [] = false
 begins_with fixed (word ∷ more) = bytes_eq word fixed
+
+-- the pairs that words are, one behind the other, where none is left over
+abbrev pub pairs_of : List Word → Option (List (Word × Word))
+pairs_of [] = Some []
+pairs_of (a ∷ []) = None
+pairs_of (a ∷ b ∷ more) = option_map (λ pairs. (a, b) ∷ pairs) (pairs_of more)

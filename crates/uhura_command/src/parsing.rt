@@ -3,6 +3,7 @@ mod ahead;
 mod cap;
 mod count;
 mod kind;
+mod pairs;
 mod places;
 mod price;
 mod priced;
