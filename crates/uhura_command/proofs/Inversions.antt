@@ -1,9 +1,9 @@
 -- What the words behind a verb are, where they are of a form.
-use Rattle.std.proofs.Common.{◌≡◌, ℕ, ◌+◌, ◌≤◌, Bool, true, false, List, [], ◌∷◌, ◌++◌, length, Option, Some, None, bytes_eq, codes, refl, ap, sym, ◌∙◌, arith, true≢false}
+use Rattle.std.proofs.Common.{◌≡◌, ◌≢◌, ℕ, ◌+◌, ◌≤◌, Bool, true, false, List, [], ◌∷◌, ◌++◌, length, Option, Some, None, bytes_eq, codes, refl, ap, sym, ◌∙◌, arith, true≢false}
 use Rattle.std.proofs.lemmas.Slice.Eq.{bytes_eq-Decides}
 use Rattle.uhura_plan.specs.declared.key.Side.{Side}
 use Rattle.uhura_plan.specs.declared.key.Side.TheVariants.{Lower, Upper}
-use Rattle.uhura_command.specs.Form.{Word, Priced, Kind, Form, event, uncertain, choice, require, drop, bound, price, rate, range, prefer, deny, cap, withdraw, show, propose, prove, side_word, kind_word, rate_words, optional, set_words, set_rate_words, requirement, duration, words_of, IsForm}
+use Rattle.uhura_command.specs.Form.{Word, Priced, Kind, Form, event, uncertain, choice, require, drop, bound, price, rate, range, prefer, deny, cap, withdraw, show, propose, prove, side_word, kind_word, pair_words, rate_words, optional, set_words, set_rate_words, requirement, duration, words_of, IsForm}
 
 -- the first word, and those behind it
 abbrev pub head : List Word → Word
@@ -135,3 +135,12 @@ uncertain_size rest _ h = absurd (differ (codes "uncertain") _ _ _ h.words_are r
 pub uncertain_rates : (n start end lo hi : Word) (more : List Word) (f : Form) → IsForm (codes "uncertain" ∷ n ∷ start ∷ end ∷ lo ∷ hi ∷ more) f → (lower : Option Word) × (upper : Option Word) × (more ≡ rate_words Lower lower ++ rate_words Upper upper)
 uncertain_rates n start end lo hi more (uncertain m s e l u lower upper) h = (lower, upper, ap (λ l. tail (tail (tail (tail (tail (tail l)))))) h.words_are)
 uncertain_rates n start end lo hi more _ h = absurd (differ (codes "uncertain") _ _ _ h.words_are refl)
+
+-- `deny` has a name, and then pairs
+pub deny_name : (f : Form) → IsForm (codes "deny" ∷ []) f → ⊥
+deny_name (deny v literals) h = let e : 0 ≡ length (v ∷ pair_words literals) = ap (λ l. length (tail l)) h.words_are in omega arith
+deny_name _ h = differ (codes "deny") _ _ _ h.words_are refl
+
+pub deny_pairs : (v : Word) (more : List Word) (f : Form) → IsForm (codes "deny" ∷ v ∷ more) f → (literals : List (Word × Word)) × (literals ≢ []) × (more ≡ pair_words literals)
+deny_pairs v more (deny w literals) h = (literals, h.taken, ap (λ l. tail (tail l)) h.words_are)
+deny_pairs v more _ h = absurd (differ (codes "deny") _ _ _ h.words_are refl)

@@ -8,3 +8,5 @@ pub mod CapLemmas
 pub mod PriceLemmas
 pub mod UncertainLemmas
 pub mod Pairing
+pub mod DenyLemmas
+pub mod GuardLemmas

@@ -3,8 +3,9 @@ use Rattle.std.proofs.Common.{◌≡◌, ℕ, Bool, true, false, List, [], ◌�
 use Rattle.std.proofs.lemmas.Slice.Eq.{bytes_eq-Decides}
 use Rattle.uhura_plan.specs.declared.key.Side.{Side}
 use Rattle.uhura_plan.specs.declared.key.Side.TheVariants.{Lower, Upper}
+use Rattle.std.specs.declared.alloc.AllocError.{AllocError}
 use Rattle.uhura_command.specs.declared.command.Command.{Command}
-use Rattle.uhura_command.specs.declared.refusal.LineRefusal.TheVariants.{Form, Number, Name}
+use Rattle.uhura_command.specs.declared.refusal.LineRefusal.TheVariants.{Form, Number, Name, Memory}
 use Rattle.uhura_command.specs.Form as grammar
 use Rattle.uhura_command.specs.Reads.{form_of, has_numbers, has_names}
 use Rattle.uhura_command.specs.Parses.{ParsesWords}
@@ -35,3 +36,6 @@ no_side s lower upper Upper e = unlike s (codes "upper") upper e
 pub no_kind : (k : grammar.Word) → bytes_eq k (codes "require") ≡ false → bytes_eq k (codes "uncertain") ≡ false → (kind : grammar.Kind) → k ≡ grammar.kind_word kind → ⊥
 no_kind k require uncertain grammar.requirement e = unlike k (codes "require") require e
 no_kind k require uncertain grammar.duration e = unlike k (codes "uncertain") uncertain e
+
+pub no_memory : (line : List grammar.Word) (f : grammar.Form) (error : AllocError) → grammar.IsForm line f → has_numbers f ≡ true → has_names f ≡ true → ParsesWords line (Err (Memory error))
+no_memory line f error h numbers names = record { form = f; is_form = h; has_numbers = numbers; has_names = λ _. names }

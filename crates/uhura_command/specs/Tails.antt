@@ -21,3 +21,9 @@ abbrev pub pairs_of : List Word → Option (List (Word × Word))
 pairs_of [] = Some []
 pairs_of (a ∷ []) = None
 pairs_of (a ∷ b ∷ more) = option_map (λ pairs. (a, b) ∷ pairs) (pairs_of more)
+
+-- the pairs of a guard: `when` and at least one pair, or nothing
+abbrev pub guard_of : List Word → Option (List (Word × Word))
+guard_of [] = Some []
+guard_of (word ∷ []) = None
+guard_of (word ∷ a ∷ more) = if bytes_eq word (codes "when") then pairs_of (a ∷ more) else None

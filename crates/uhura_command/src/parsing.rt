@@ -2,6 +2,8 @@
 mod ahead;
 mod cap;
 mod count;
+mod deny;
+mod guard;
 mod kind;
 mod pairs;
 mod places;
