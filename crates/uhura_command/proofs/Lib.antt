@@ -10,3 +10,4 @@ pub mod UncertainLemmas
 pub mod Pairing
 pub mod DenyLemmas
 pub mod GuardLemmas
+pub mod VerbLemmas

@@ -4,3 +4,4 @@ pub mod Parses
 pub mod Kinds
 pub mod Tails
 pub mod Pairs
+pub mod Verbs

@@ -14,3 +14,4 @@ mod several;
 mod single;
 mod uncertain;
 mod values;
+mod verb;
