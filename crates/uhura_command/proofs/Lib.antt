@@ -11,3 +11,4 @@ pub mod Pairing
 pub mod DenyLemmas
 pub mod GuardLemmas
 pub mod VerbLemmas
+pub mod CostedLemmas

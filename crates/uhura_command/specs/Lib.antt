@@ -5,3 +5,4 @@ pub mod Kinds
 pub mod Tails
 pub mod Pairs
 pub mod Verbs
+pub mod Costed

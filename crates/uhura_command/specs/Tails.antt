@@ -27,3 +27,12 @@ abbrev pub guard_of : List Word → Option (List (Word × Word))
 guard_of [] = Some []
 guard_of (word ∷ []) = None
 guard_of (word ∷ a ∷ more) = if bytes_eq word (codes "when") then pairs_of (a ∷ more) else None
+
+-- the pairs of alternative and cost up to the first `when`, and the words from there on
+abbrev pub alternatives_of : List Word → Option (List (Word × Word) × List Word)
+alternatives_of [] = Some ([], [])
+alternatives_of (a ∷ []) = if bytes_eq a (codes "when") then Some ([], a ∷ []) else None
+alternatives_of (a ∷ b ∷ more) =
+    if bytes_eq a (codes "when") then Some ([], a ∷ b ∷ more)
+    else if bytes_eq b (codes "when") then None
+    else option_map (λ found. ((a, b) ∷ found.0, found.1)) (alternatives_of more)

@@ -1,6 +1,7 @@
 //! The command that a line gives.
 mod ahead;
 mod cap;
+mod costed;
 mod count;
 mod deny;
 mod guard;
