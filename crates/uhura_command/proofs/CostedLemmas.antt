@@ -50,7 +50,7 @@ costed-more all left behind_first more a b read next h e f first second step =
     }
 
 -- the alternatives end here
-ended : (left : List Word) → begins_with (codes "when") left ≡ true → alternatives_of left ≡ Some ([], left)
+pub ended : (left : List Word) → begins_with (codes "when") left ≡ true → alternatives_of left ≡ Some ([], left)
 ended [] when = cc
 ended (a ∷ []) when = rw when refl
 ended (a ∷ b ∷ more) when = rw when refl

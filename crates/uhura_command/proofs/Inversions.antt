@@ -1,9 +1,10 @@
 -- What the words behind a verb are, where they are of a form.
 use Rattle.std.proofs.Common.{◌≡◌, ◌≢◌, ℕ, ◌+◌, ◌≤◌, Bool, true, false, List, [], ◌∷◌, ◌++◌, length, Option, Some, None, bytes_eq, codes, refl, ap, sym, ◌∙◌, arith, true≢false}
+use Rattle.std.specs.List.{AllByRecursion}
 use Rattle.std.proofs.lemmas.Slice.Eq.{bytes_eq-Decides}
 use Rattle.uhura_plan.specs.declared.key.Side.{Side}
 use Rattle.uhura_plan.specs.declared.key.Side.TheVariants.{Lower, Upper}
-use Rattle.uhura_command.specs.Form.{Word, Priced, Kind, Form, event, uncertain, choice, require, drop, bound, price, rate, range, prefer, deny, cap, withdraw, show, propose, prove, side_word, kind_word, pair_words, rate_words, optional, set_words, set_rate_words, requirement, duration, words_of, IsForm}
+use Rattle.uhura_command.specs.Form.{Word, Priced, Kind, Form, event, uncertain, choice, require, drop, bound, price, rate, range, prefer, deny, cap, withdraw, show, propose, prove, side_word, kind_word, pair_words, guard_words, rate_words, optional, set_words, set_rate_words, requirement, duration, words_of, IsForm}
 
 -- the first word, and those behind it
 abbrev pub head : List Word → Word
@@ -144,3 +145,25 @@ deny_name _ h = differ (codes "deny") _ _ _ h.words_are refl
 pub deny_pairs : (v : Word) (more : List Word) (f : Form) → IsForm (codes "deny" ∷ v ∷ more) f → (literals : List (Word × Word)) × (literals ≢ []) × (more ≡ pair_words literals)
 deny_pairs v more (deny w literals) h = (literals, h.taken, ap (λ l. tail (tail l)) h.words_are)
 deny_pairs v more _ h = absurd (differ (codes "deny") _ _ _ h.words_are refl)
+
+-- `choice` has a name, and then alternatives and a guard
+pub choice_name : (f : Form) → IsForm (codes "choice" ∷ []) f → ⊥
+choice_name (choice n alternatives guard) h = let e : 0 ≡ length (n ∷ pair_words alternatives ++ guard_words guard) = ap (λ l. length (tail l)) h.words_are in omega arith
+choice_name _ h = differ (codes "choice") _ _ _ h.words_are refl
+
+pub record ChoiceParts (more : List Word) : Type 0 where
+  pub alternatives : List (Word × Word)
+  pub guard : List (Word × Word)
+  pub some : alternatives ≢ []
+  pub whenless : AllByRecursion (λ word. word ≢ codes "when") (pair_words alternatives)
+  pub words_are : more ≡ pair_words alternatives ++ guard_words guard
+
+pub choice_parts : (n : Word) (more : List Word) (f : Form) → IsForm (codes "choice" ∷ n ∷ more) f → ChoiceParts more
+choice_parts n more (choice m alternatives guard) h = record {
+  alternatives = alternatives;
+  guard = guard;
+  some = h.taken.0;
+  whenless = h.taken.1;
+  words_are = ap (λ l. tail (tail l)) h.words_are;
+}
+choice_parts n more _ h = absurd (differ (codes "choice") _ _ _ h.words_are refl)

@@ -12,3 +12,4 @@ pub mod DenyLemmas
 pub mod GuardLemmas
 pub mod VerbLemmas
 pub mod CostedLemmas
+pub mod ChoiceLemmas

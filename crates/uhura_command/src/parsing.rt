@@ -1,6 +1,7 @@
 //! The command that a line gives.
 mod ahead;
 mod cap;
+mod choice;
 mod costed;
 mod count;
 mod deny;
