@@ -1,6 +1,6 @@
 -- The parts at the end of a line that may be missing, as a reader finds them.
-use Rattle.std.specs.Prelude.{Bool, true, false, ◌&&◌, if◌then◌else◌, List, [], ◌∷◌, Option, Some, None, option_map, bytes_eq, codes}
-use Rattle.uhura_command.specs.Form.{Word}
+use Rattle.std.specs.Prelude.{Bool, true, false, ◌&&◌, ◌||◌, if◌then◌else◌, List, [], ◌∷◌, Option, Some, None, option_map, bytes_eq, codes}
+use Rattle.uhura_command.specs.Form.{Word, Priced}
 
 -- the word of the lower and the word of the upper rate, where the words are such
 abbrev pub rates_of : List Word → Option (Option Word × Option Word)
@@ -36,3 +36,19 @@ alternatives_of (a ∷ b ∷ more) =
     if bytes_eq a (codes "when") then Some ([], a ∷ b ∷ more)
     else if bytes_eq b (codes "when") then None
     else option_map (λ found. ((a, b) ∷ found.0, found.1)) (alternatives_of more)
+
+-- PRICE and MAX behind a side, where the words begin with it, and the words behind them; a word that ends the part is no MAX
+abbrev pub price_part : Word → (Word → Bool) → List Word → Option (Option Priced × List Word)
+price_part side ends [] = Some (None, [])
+price_part side ends (word ∷ []) = if bytes_eq word side then None else Some (None, word ∷ [])
+price_part side ends (word ∷ r ∷ []) = if bytes_eq word side then Some (Some record { rate = r; most = None }, []) else Some (None, word ∷ r ∷ [])
+price_part side ends (word ∷ r ∷ m ∷ more) =
+    if bytes_eq word side then (if ends m then Some (Some record { rate = r; most = None }, m ∷ more) else Some (Some record { rate = r; most = Some m }, more))
+    else Some (None, word ∷ r ∷ m ∷ more)
+
+-- the words that end the part of the lower side, and that of the upper side
+abbrev pub ends_lower : Word → Bool
+ends_lower word = bytes_eq word (codes "upper") || bytes_eq word (codes "when")
+
+abbrev pub ends_upper : Word → Bool
+ends_upper word = bytes_eq word (codes "when")

@@ -8,6 +8,7 @@ mod deny;
 mod guard;
 mod kind;
 mod pairs;
+mod part;
 mod places;
 mod price;
 mod priced;
