@@ -14,6 +14,7 @@ mod price;
 mod priced;
 mod rates;
 mod several;
+mod sides;
 mod single;
 mod uncertain;
 mod values;
