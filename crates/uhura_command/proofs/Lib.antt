@@ -13,3 +13,4 @@ pub mod GuardLemmas
 pub mod VerbLemmas
 pub mod CostedLemmas
 pub mod ChoiceLemmas
+pub mod RequireLemmas

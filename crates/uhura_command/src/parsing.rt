@@ -13,6 +13,7 @@ mod places;
 mod price;
 mod priced;
 mod rates;
+mod require;
 mod several;
 mod sides;
 mod single;
