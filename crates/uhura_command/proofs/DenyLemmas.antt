@@ -1,5 +1,5 @@
 -- What `deny` is parsed to.
-use Rattle.std.proofs.Common.{◌≡◌, ◌≢◌, ℕ, Bool, true, false, ◌&&◌, List, [], ◌∷◌, Option, Some, None, Result, Ok, Err, codes, refl, ap, sym, ◌∙◌, subst}
+use Rattle.std.proofs.Common.{◌≡◌, ◌≢◌, Bool, true, false, ◌&&◌, List, [], ◌∷◌, Some, None, Ok, Err, codes, refl, ap, sym, ◌∙◌, subst}
 use Rattle.std.specs.declared.alloc.AllocError.{AllocError}
 use Rattle.uhura_plan.specs.Name.{is_name}
 use Rattle.uhura_command.specs.declared.command.Command.TheVariants as command
@@ -11,7 +11,7 @@ use Rattle.uhura_command.specs.Form.{Word, pair_words}
 use Rattle.uhura_command.specs.Reads.{are_names}
 use Rattle.uhura_command.specs.Parses.{ParsesWords}
 use Rattle.uhura_command.specs.Tails.{pairs_of}
-use Rattle.uhura_command.specs.Pairs.{HoldsPairs, ReadsPairs}
+use Rattle.uhura_command.specs.Pairs.{ReadsPairs}
 use Rattle.uhura_command.proofs.Outcomes.{along, bad_name, parsed, no_memory}
 use Rattle.uhura_command.proofs.Inversions.{deny_name, deny_pairs}
 use Rattle.uhura_command.proofs.Pairing.{pairs_found, pairs_are}

@@ -1,10 +1,10 @@
 -- How a guard is read.
-use Rattle.std.proofs.Common.{◌≡◌, true, false, List, [], ◌∷◌, Option, Some, None, bytes_eq, codes, refl, ap, sym, ◌∙◌}
+use Rattle.std.proofs.Common.{◌≡◌, true, false, List, [], ◌∷◌, Some, None, bytes_eq, codes, refl, ap, sym, ◌∙◌}
 use Rattle.uhura_command.specs.declared.parsing.pairs.Pairs.{Pairs}
-use Rattle.uhura_command.specs.Form.{Word, pair_words, guard_words}
+use Rattle.uhura_command.specs.Form.{Word, guard_words}
 use Rattle.uhura_command.specs.Tails.{pairs_of, guard_of, begins_with}
 use Rattle.uhura_command.specs.Pairs.{HoldsPairs, ReadsPairs, ReadsGuard}
-use Rattle.uhura_command.proofs.Pairing.{pairs_found, pairs_are}
+use Rattle.uhura_command.proofs.Pairing.{pairs_found}
 
 -- behind `when` a guard is its pairs
 guard-pairs : (words more : List Word) (word : Word) → words ≡ word ∷ more → bytes_eq word (codes "when") ≡ true → (more ≡ [] → ⊥) → guard_of words ≡ pairs_of more

@@ -1,10 +1,10 @@
 -- What the words behind a verb are, where they are of a form.
-use Rattle.std.proofs.Common.{◌≡◌, ◌≢◌, ℕ, ◌+◌, ◌≤◌, Bool, true, false, List, [], ◌∷◌, ◌++◌, length, Option, Some, None, bytes_eq, codes, refl, ap, sym, ◌∙◌, arith, true≢false}
+use Rattle.std.proofs.Common.{◌≡◌, ◌≢◌, ◌≤◌, false, List, [], ◌∷◌, ◌++◌, length, Option, Some, None, bytes_eq, codes, refl, ap, sym, ◌∙◌, arith, true≢false}
 use Rattle.std.specs.List.{AllByRecursion}
 use Rattle.std.proofs.lemmas.Slice.Eq.{bytes_eq-Decides}
 use Rattle.uhura_plan.specs.declared.key.Side.{Side}
 use Rattle.uhura_plan.specs.declared.key.Side.TheVariants.{Lower, Upper}
-use Rattle.uhura_command.specs.Form.{Word, Priced, Kind, Form, event, uncertain, choice, require, drop, bound, price, rate, range, prefer, deny, cap, withdraw, show, propose, prove, side_word, kind_word, pair_words, guard_words, rate_words, optional, set_words, set_rate_words, requirement, duration, words_of, IsForm}
+use Rattle.uhura_command.specs.Form.{Word, Priced, Kind, Form, event, uncertain, choice, drop, bound, price, rate, range, prefer, deny, cap, withdraw, show, propose, prove, side_word, kind_word, pair_words, guard_words, rate_words, optional, set_words, set_rate_words, requirement, duration, IsForm}
 
 -- the first word, and those behind it
 abbrev pub head : List Word → Word

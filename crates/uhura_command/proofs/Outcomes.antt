@@ -1,11 +1,11 @@
 -- What a line is parsed to, from the form that its words have.
-use Rattle.std.proofs.Common.{◌≡◌, ℕ, Bool, true, false, List, [], ◌∷◌, Result, Ok, Err, bytes_eq, codes, refl, ap, sym, ◌∙◌, true≢false}
+use Rattle.std.proofs.Common.{◌≡◌, true, false, List, ◌∷◌, Ok, Err, bytes_eq, codes, refl, ap, sym, ◌∙◌, true≢false}
 use Rattle.std.proofs.lemmas.Slice.Eq.{bytes_eq-Decides}
 use Rattle.uhura_plan.specs.declared.key.Side.{Side}
 use Rattle.uhura_plan.specs.declared.key.Side.TheVariants.{Lower, Upper}
 use Rattle.std.specs.declared.alloc.AllocError.{AllocError}
 use Rattle.uhura_command.specs.declared.command.Command.{Command}
-use Rattle.uhura_command.specs.declared.refusal.LineRefusal.TheVariants.{Form, Number, Name, Memory}
+use Rattle.uhura_command.specs.declared.refusal.LineRefusal.TheVariants.{Number, Name, Memory}
 use Rattle.uhura_command.specs.Form as grammar
 use Rattle.uhura_command.specs.Reads.{form_of, has_numbers, has_names}
 use Rattle.uhura_command.specs.Parses.{ParsesWords}

@@ -1,5 +1,5 @@
 -- How pairs are read, one behind the other.
-use Rattle.std.proofs.Common.{◌≡◌, ℕ, true, List, [], ◌∷◌, ◌++◌, Option, Some, None, option_map, refl, ap, sym, ◌∙◌, append_assoc, append-nil}
+use Rattle.std.proofs.Common.{◌≡◌, List, [], ◌∷◌, ◌++◌, Option, Some, None, option_map, refl, ap, sym, ◌∙◌, append_assoc, append-nil}
 use Rattle.uhura_command.specs.declared.parsing.pairs.Pairs.{Pairs}
 use Rattle.uhura_command.specs.Form.{Word, pair_words}
 use Rattle.uhura_command.specs.Tails.{pairs_of}

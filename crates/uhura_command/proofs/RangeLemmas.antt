@@ -1,14 +1,13 @@
 -- What `range` is parsed to.
-use Rattle.std.proofs.Common.{◌≡◌, ◌≢◌, ℕ, ℤ, Bool, true, false, ◌&&◌, List, [], ◌∷◌, length, Option, Some, None, Result, Ok, Err, bytes_eq, codes, refl, ap, sym, ◌∙◌}
+use Rattle.std.proofs.Common.{◌≡◌, ◌≢◌, ℤ, true, false, ◌&&◌, List, [], ◌∷◌, length, Ok, Err, codes, refl, ap}
 use Rattle.uhura_text.specs.Number.{spelling}
 use Rattle.uhura_plan.specs.Name.{is_name}
-use Rattle.uhura_plan.specs.declared.key.Side.{Side}
 use Rattle.uhura_command.specs.declared.command.Command.TheVariants as command
 use Rattle.uhura_command.specs.declared.refusal.LineRefusal.TheVariants.{Form, Number, Name}
 use Rattle.uhura_command.specs.Form as grammar
-use Rattle.uhura_command.specs.Reads.{is_bound, is_amount, bound_word, count_word}
+use Rattle.uhura_command.specs.Reads.{is_amount}
 use Rattle.uhura_command.specs.Parses.{ParsesWords}
-use Rattle.uhura_command.proofs.Outcomes.{along, bad_number, bad_name, parsed, no_side, no_kind}
+use Rattle.uhura_command.proofs.Outcomes.{bad_number, bad_name, parsed}
 use Rattle.uhura_command.proofs.Inversions.{range_size}
 
 -- the words have the form

@@ -1,5 +1,5 @@
 -- What `require` is parsed to.
-use Rattle.std.proofs.Common.{◌≡◌, ℕ, Bool, true, false, ◌&&◌, List, Option, Result, Ok, Err, option_map, refl, ap, sym, subst, ◌∙◌}
+use Rattle.std.proofs.Common.{◌≡◌, Bool, true, false, ◌&&◌, List, Ok, Err, option_map, refl, ap, sym, subst, ◌∙◌}
 use Rattle.std.specs.declared.alloc.AllocError.{AllocError}
 use Rattle.uhura_plan.specs.Name.{is_name}
 use Rattle.uhura_plan.specs.declared.requirement.Bounded.{Bounded}
@@ -7,7 +7,7 @@ use Rattle.uhura_command.specs.declared.command.Command.TheVariants as command
 use Rattle.uhura_command.specs.declared.refusal.LineRefusal.TheVariants.{Name, Memory}
 use Rattle.uhura_command.specs.Form as grammar
 use Rattle.uhura_command.specs.Form.{Word, Priced}
-use Rattle.uhura_command.specs.Reads.{are_names, bound_word, priced_of, has_numbers, has_names}
+use Rattle.uhura_command.specs.Reads.{are_names, bound_word, priced_of, has_numbers}
 use Rattle.uhura_command.specs.Parses.{ParsesWords}
 use Rattle.uhura_command.proofs.Outcomes.{bad_name, parsed, no_memory}
 

@@ -1,7 +1,6 @@
 -- What the verbs are parsed to that a name alone follows, and those that stand alone.
-use Rattle.std.proofs.Common.{◌≡◌, ◌≢◌, ℕ, Bool, true, false, List, [], ◌∷◌, length, Option, Some, None, Result, Ok, Err, codes, refl, ap, sym, ◌∙◌, arith}
+use Rattle.std.proofs.Common.{◌≡◌, ◌≢◌, true, false, List, [], ◌∷◌, length, Ok, Err, codes, refl, ap, ◌∙◌}
 use Rattle.uhura_plan.specs.Name.{is_name}
-use Rattle.uhura_command.specs.declared.command.Command.{Command}
 use Rattle.uhura_command.specs.declared.command.Command.TheVariants as command
 use Rattle.uhura_command.specs.declared.refusal.LineRefusal.TheVariants.{Form, Name}
 use Rattle.uhura_command.specs.Form as grammar

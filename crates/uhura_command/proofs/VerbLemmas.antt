@@ -1,5 +1,5 @@
 -- A word that is in none of three parts of a list is none of the verbs.
-use Rattle.std.proofs.Common.{◌≡◌, Bool, true, false, List, [], ◌∷◌, ◌++◌, bytes_eq, codes, refl, ◌∙◌}
+use Rattle.std.proofs.Common.{◌≡◌, Bool, false, List, [], ◌∷◌, ◌++◌, bytes_eq, codes, refl, ◌∙◌}
 use Rattle.std.specs.List.{list_any}
 use Rattle.std.proofs.lemmas.List.Folds.{list_any-append}
 use Rattle.uhura_command.specs.Form.{Word}

@@ -1,5 +1,5 @@
 -- Pairs of names as far as they are read.
-use Rattle.std.specs.Prelude.{◌≡◌, true, false, List, Option, Some}
+use Rattle.std.specs.Prelude.{◌≡◌, true, false, List, Some}
 use Rattle.uhura_command.specs.declared.parsing.pairs.Pairs.{Pairs}
 use Rattle.uhura_command.specs.declared.parsing.pairs.Pairs.TheVariants as code
 use Rattle.uhura_command.specs.Form.{Word}

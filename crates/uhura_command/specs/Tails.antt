@@ -1,5 +1,5 @@
 -- The parts at the end of a line that may be missing, as a reader finds them.
-use Rattle.std.specs.Prelude.{Bool, true, false, ◌&&◌, ◌||◌, if◌then◌else◌, List, [], ◌∷◌, Option, Some, None, option_map, bytes_eq, codes}
+use Rattle.std.specs.Prelude.{Bool, false, ◌&&◌, ◌||◌, if◌then◌else◌, List, [], ◌∷◌, Option, Some, None, option_map, bytes_eq, codes}
 use Rattle.uhura_command.specs.Form.{Word, Priced}
 
 -- the word of the lower and the word of the upper rate, where the words are such

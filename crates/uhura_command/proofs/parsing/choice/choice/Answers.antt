@@ -1,4 +1,4 @@
-use Rattle.std.proofs.Common.{◌≡◌, ◌∙◌, sym, refl}
+use Rattle.std.proofs.Common.{◌∙◌, sym, refl}
 use Rattle.uhura_command.proofs.ChoiceLemmas.{behind, choice-empty, choice-when, choice-alternatives, choice-guard, choice_is_form}
 use Rattle.uhura_command.proofs.parsing.choice.choice.Goals as goal
 

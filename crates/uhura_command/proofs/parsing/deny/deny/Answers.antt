@@ -1,4 +1,4 @@
-use Rattle.std.proofs.Common.{◌≡◌, ◌∙◌, refl, sym, subst}
+use Rattle.std.proofs.Common.{◌∙◌, refl, subst}
 use Rattle.uhura_command.specs.declared.parsing.pairs.Pairs.{Pairs}
 use Rattle.uhura_command.specs.Pairs.{ReadsPairs}
 use Rattle.uhura_command.proofs.DenyLemmas.{behind, deny-empty, deny-no_pairs, deny-name, deny-names, deny-memory, deny-ok}
