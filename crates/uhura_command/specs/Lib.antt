@@ -2,3 +2,8 @@ pub mod Form
 pub mod Reads
 pub mod Parses
 pub mod Written
+pub mod Kinds
+pub mod Tails
+pub mod Pairs
+pub mod Verbs
+pub mod Costed

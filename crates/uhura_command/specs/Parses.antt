@@ -33,3 +33,21 @@ ParsesWords line (Err Form) = (begins_with_verb line ≡ true) × ((form : gramm
 ParsesWords line (Err Number) = (names : Bool) × HasForm line false names
 ParsesWords line (Err Name) = HasForm line true false
 ParsesWords line (Err (Memory error)) = HasForm line true true
+
+-- the line is read by its words: it isn't long, it asks for something, and each byte may stand there
+pub record IsWorded (line : List ℕ) : Type 0 where
+  pub short : length line ≤ 4096
+  pub asks : is_quiet line ≡ false
+  pub good : first_bad line ≡ None
+
+-- what a line is parsed to: long, quiet, with a bad byte, or what its words are
+abbrev pub Parses : List ℕ → Result (Option Command) LineRefusal → Type 0
+Parses line (Err Long) = 4096 < length line
+Parses line (Ok None) = (length line ≤ 4096) × (is_quiet line ≡ true)
+Parses line (Err (Byte at)) = (length line ≤ 4096) × (is_quiet line ≡ false) × (option_map (min (2 ^ 32 - 1)) (first_bad line) ≡ Some at)
+Parses line (Ok (Some c)) = IsWorded line × ParsesWords (words line) (Ok c)
+Parses line (Err Verb) = IsWorded line × ParsesWords (words line) (Err Verb)
+Parses line (Err Form) = IsWorded line × ParsesWords (words line) (Err Form)
+Parses line (Err Number) = IsWorded line × ParsesWords (words line) (Err Number)
+Parses line (Err Name) = IsWorded line × ParsesWords (words line) (Err Name)
+Parses line (Err (Memory error)) = IsWorded line × ParsesWords (words line) (Err (Memory error))

@@ -4,6 +4,7 @@
 mod command;
 pub mod law;
 mod literals;
+mod parsing;
 mod refusal;
 mod write;
 

@@ -1,0 +1,22 @@
+//! The command that a line gives.
+mod ahead;
+mod cap;
+mod choice;
+mod costed;
+mod count;
+mod deny;
+mod guard;
+mod kind;
+mod pairs;
+mod part;
+mod places;
+mod price;
+mod priced;
+mod rates;
+mod require;
+mod several;
+mod sides;
+mod single;
+mod uncertain;
+mod values;
+mod verb;
