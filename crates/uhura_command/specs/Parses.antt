@@ -1,6 +1,7 @@
 -- What a line is parsed to.
-use Rattle.std.specs.Prelude.{◌≡◌, Bool, true, false, List, [], ◌∷◌, Result, Ok, Err, bytes_eq, codes}
+use Rattle.std.specs.Prelude.{◌≡◌, ℕ, ◌-◌, ◌^◌, ◌<◌, ◌≤◌, min, Bool, true, false, List, [], ◌∷◌, length, None, Some, Option, option_map, Result, Ok, Err, bytes_eq, codes}
 use Rattle.std.specs.List.{list_any}
+use Rattle.uhura_text.specs.Words.{words, first_bad, is_quiet}
 use Rattle.uhura_command.specs.declared.command.Command.{Command}
 use Rattle.uhura_command.specs.declared.refusal.LineRefusal.{LineRefusal}
 use Rattle.uhura_command.specs.declared.refusal.LineRefusal.TheVariants.{Long, Byte, Verb, Form, Number, Name, Memory}
