@@ -17,7 +17,7 @@ use Rattle.uhura_plan.specs.Lists.{Lists, choice_names}
 use Rattle.uhura_plan.specs.Guard.{no_literal}
 use Rattle.uhura_plan.specs.Find.{literal_named}
 use Rattle.uhura_plan.specs.Sound.{IsLiteralAmong, IsGuardAmong}
-use Rattle.uhura_plan.specs.Edits.{repeated_at, repeated_in}
+use Rattle.uhura_plan.specs.Refusals.{repeated_at, repeated_in}
 use Rattle.uhura_plan.proofs.Positions.{none_passes, any_passes_at}
 use Rattle.uhura_plan.proofs.Finds.{same_place, spelled, literal_among}
 use Rattle.uhura_plan.proofs.Refusals.{mapped_none}

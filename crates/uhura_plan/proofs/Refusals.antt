@@ -9,7 +9,7 @@ use Rattle.uhura_plan.specs.declared.refusal.EditRefusal.TheVariants.{Taken, Unk
 use Rattle.uhura_plan.specs.Lists.{Lists}
 use Rattle.uhura_plan.specs.Find.{find_event, requirement_named, literal_named}
 use Rattle.uhura_plan.specs.Limits.{AreOrdered}
-use Rattle.uhura_plan.specs.Edits.{refuse_if, first_of, known_names, unknown_in, repeated_in, empty_between, requirement_refusal}
+use Rattle.uhura_plan.specs.Refusals.{refuse_if, first_of, known_names, unknown_in, repeated_in, empty_between, requirement_refusal}
 use Rattle.uhura_plan.proofs.Positions.{none_passes}
 use Rattle.uhura_plan.proofs.Literals.{or_false}
 

@@ -5,7 +5,7 @@ use Rattle.std.proofs.lemmas.Bool.Decides.{nat_tests}
 use Rattle.std.proofs.lemmas.List.{get_or-map, take-map}
 use Rattle.std.proofs.lemmas.List.FromFn.{get_or-enumerate_from, length-enumerate_from}
 use Rattle.std.proofs.lemmas.List.Sums.{position_or_len_is}
-use Rattle.uhura_plan.specs.Edits.{repeated_at}
+use Rattle.uhura_plan.specs.Refusals.{repeated_at}
 
 -- whether the name at a place stands before it too
 abbrev pub repeats : List (List ℕ) → ℕ → Bool

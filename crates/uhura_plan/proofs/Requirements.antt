@@ -19,7 +19,8 @@ use Rattle.uhura_plan.specs.Find.{place_of, requirement_named}
 use Rattle.uhura_plan.specs.Limits.{AreWithinLimits, AreOrdered}
 use Rattle.uhura_plan.specs.Sound.{IsName, AreDistinct, IsGuardAmong, IsSoundRequirement, HasDistinctNames, IsSound}
 use Rattle.uhura_plan.specs.Tables.{lists_of, HoldsPlan}
-use Rattle.uhura_plan.specs.Edits.{requirement_refusal, IsRequirementOf, with_requirement}
+use Rattle.uhura_plan.specs.Edits.{IsRequirementOf, with_requirement}
+use Rattle.uhura_plan.specs.Refusals.{requirement_refusal}
 use Rattle.uhura_plan.proofs.Positions.{none_passes}
 use Rattle.uhura_plan.proofs.Finds.{event_among, same_event}
 use Rattle.uhura_plan.proofs.Refusals.{unrefused, bounds_ordered}

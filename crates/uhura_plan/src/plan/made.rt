@@ -2,7 +2,8 @@
 ghost use Rattle.std.specs.Prelude.{◌≡◌, ◌<◌, None, Some, map};
 ghost use Rattle.uhura_plan.specs.Find.{literal_named};
 ghost use Rattle.uhura_plan.specs.Sound.{IsGuardAmong};
-ghost use Rattle.uhura_plan.specs.Edits.{IsRequirementOf, requirement_refusal, unknown_in, repeated_in};
+ghost use Rattle.uhura_plan.specs.Edits.{IsRequirementOf};
+ghost use Rattle.uhura_plan.specs.Refusals.{requirement_refusal, unknown_in, repeated_in};
 
 use super::Plan;
 use super::slot::least_free_slot;

@@ -1,7 +1,7 @@
 //! Whether an edit is refused, and why.
 ghost use Rattle.std.specs.Prelude.{◌≡◌, bytes_eq};
 ghost use Rattle.std.specs.List.{list_any};
-ghost use Rattle.uhura_plan.specs.Edits.{carried, unknown_in, empty_between, repeated_in, requirement_refusal};
+ghost use Rattle.uhura_plan.specs.Refusals.{carried, unknown_in, empty_between, repeated_in, requirement_refusal};
 
 use super::{Plan, REQUIREMENTS};
 use crate::{Bounded, EditRefusal, Name};

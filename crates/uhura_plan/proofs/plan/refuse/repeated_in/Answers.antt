@@ -2,7 +2,7 @@
 use Rattle.std.proofs.Common.{ℕ, ◌<◌, List, length, map, Some, option_map, sym, ap, ◌∙◌, arith, below_more}
 use Rattle.std.proofs.lemmas.List.{length-map}
 use Rattle.uhura_plan.specs.declared.refusal.EditRefusal.TheVariants.{Guard}
-use Rattle.uhura_plan.specs.Edits.{carried}
+use Rattle.uhura_plan.specs.Refusals.{carried}
 use Rattle.uhura_plan.proofs.Repeats.{repeats-literal, repeated_at-first, repeated_at-none}
 use Rattle.uhura_plan.proofs.plan.refuse.repeated_in.Goals as goal
 
