@@ -6,9 +6,11 @@ pub mod law;
 mod literals;
 mod parsing;
 mod refusal;
+mod state;
 mod write;
 
 pub use command::{Command, ItemName};
 pub use literals::Literals;
 pub use refusal::LineRefusal;
+pub use state::{State, StateRefusal};
 pub use write::write_command;
