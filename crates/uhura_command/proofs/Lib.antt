@@ -21,3 +21,5 @@ pub mod VerbLemmas
 pub mod CostedLemmas
 pub mod ChoiceLemmas
 pub mod RequireLemmas
+pub mod ScriptLines
+pub mod AmongLemmas

@@ -3,6 +3,7 @@ ghost use Rattle.std.specs.Prelude.{◌≡◌, IfOk};
 ghost use Rattle.uhura_command.specs.State.{state_of, empty_state};
 
 mod refusal;
+mod script;
 
 pub use refusal::StateRefusal;
 use std::alloc::{AllocError, Global};
