@@ -23,3 +23,4 @@ pub mod ChoiceLemmas
 pub mod RequireLemmas
 pub mod ScriptLines
 pub mod AmongLemmas
+pub mod CommandLimits
