@@ -21,3 +21,4 @@ pub mod VerbLemmas
 pub mod CostedLemmas
 pub mod ChoiceLemmas
 pub mod RequireLemmas
+pub mod PartLemmas
