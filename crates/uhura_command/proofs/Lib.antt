@@ -22,3 +22,4 @@ pub mod CostedLemmas
 pub mod ChoiceLemmas
 pub mod RequireLemmas
 pub mod PartLemmas
+pub mod LineLemmas

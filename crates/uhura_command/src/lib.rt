@@ -10,5 +10,6 @@ mod write;
 
 pub use command::{Command, ItemName};
 pub use literals::Literals;
+pub use parsing::parse;
 pub use refusal::LineRefusal;
 pub use write::write_command;
