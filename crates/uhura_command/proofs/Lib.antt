@@ -24,3 +24,5 @@ pub mod RequireLemmas
 pub mod ScriptLines
 pub mod AmongLemmas
 pub mod CommandLimits
+pub mod PartLemmas
+pub mod LineLemmas

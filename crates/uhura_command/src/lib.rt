@@ -11,6 +11,7 @@ mod write;
 
 pub use command::{Command, ItemName};
 pub use literals::Literals;
+pub use parsing::parse;
 pub use refusal::LineRefusal;
 pub use state::{State, StateRefusal};
 pub use write::write_command;

@@ -1,6 +1,7 @@
 //! Why a command is refused in a state.
 use std::alloc::AllocError;
 use thiserror::Error;
+use uhura_plan::EditRefusal;
 
 /// Why a command left the state as it was. Of several causes the one that stands first here is given.
 #[derive(Clone, Copy, Debug, PartialEq, Eq, Error)]
@@ -29,4 +30,23 @@ pub enum StateRefusal {
     /// Memory ran out.
     #[error("{0}")]
     Memory(AllocError),
+}
+
+impl From<EditRefusal> for StateRefusal {
+    ghost use Rattle.std.specs.Prelude.{◌≡◌};
+    ghost use Rattle.uhura_command.specs.Apply.{of_edit};
+
+    ghost from_gives = { λ edit refusal. refusal ≡ of_edit edit };
+
+    fn from(edit: EditRefusal) -> StateRefusal {
+        match edit {
+            EditRefusal::Taken => StateRefusal::Taken,
+            EditRefusal::Unknown { .. } => StateRefusal::Unknown,
+            EditRefusal::Kind => StateRefusal::Kind,
+            EditRefusal::Empty { lower, upper } => StateRefusal::Empty { lower, upper },
+            EditRefusal::Guard { at } => StateRefusal::Guard { at },
+            EditRefusal::Full { limit, has } => StateRefusal::Full { limit, has },
+            EditRefusal::Memory(error) => StateRefusal::Memory(error),
+        }
+    }
 }
