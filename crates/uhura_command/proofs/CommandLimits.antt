@@ -34,7 +34,7 @@ pub bound_within : (bound : Option ℤ) → is_bound (bound_word bound) ≡ true
 bound_within None is = tt
 bound_within (Some z) is =
     let within = number_within (negsuc 999999999) (pos 1000000000) z bound_limits
-        (second (bytes_eq (spelling z) (codes "-")) (is_number (negsuc 999999999) (pos 1000000000) (spelling z)) (other_word (spelling z) (codes "-") (not_dash z)) is) in
+    (second (bytes_eq (spelling z) (codes "-")) (is_number (negsuc 999999999) (pos 1000000000) (spelling z)) (other_word (spelling z) (codes "-") (not_dash z)) is) in
     let least : int_le (negsuc 999999999) z ≡ true = within.0 in
     let most : int_le z (pos 1000000000) ≡ true = within.1 in
     record { least = grind (arith, ints); most = grind (arith, ints) }
