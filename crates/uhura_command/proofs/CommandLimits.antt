@@ -20,8 +20,8 @@ both false b h = let no : ⊥ = cc in absurd no
 
 -- the second of two tests holds, where the first fails and one of them holds
 second : (a b : Bool) → a ≡ false → (a || b) ≡ true → b ≡ true
-second true b no h = let absurdity : ⊥ = cc in absurd absurdity
-second false b no h = h
+second true b fails h = let no : ⊥ = cc in absurd no
+second false b fails h = h
 
 -- a number that is written within limits is within them
 number_within : (low high z : ℤ) → AreLimits low high → is_number low high (spelling z) ≡ true → (int_le low z ≡ true) × (int_le z high ≡ true)
