@@ -27,3 +27,9 @@ pub mod Making
 pub mod MakesEvents
 pub mod MakesUncertains
 pub mod Spelling
+pub mod MakesChoices
+pub mod MakesRequirements
+pub mod MakesPlan
+pub mod Accepting
+pub mod Numbering
+pub mod Products

@@ -1,20 +1,19 @@
 -- The commands of a plan's events make its events.
-use Rattle.std.proofs.Common.{◌≡◌, ℕ, suc, ◌+◌, ◌<◌, ◌≤◌, List, [], ◌∷◌, ◌++◌, length, take, map, Option, None, Some, slice_get, option_map, is_some, refl, sym, ap, subst, ◌∙◌, arith}
+use Rattle.std.proofs.Common.{◌≡◌, ℕ, suc, ◌<◌, ◌≤◌, List, [], length, take, map, None, Some, slice_get, option_map, is_some, refl, ap, arith}
 use Rattle.std.specs.Option.{option_or}
 use Rattle.std.proofs.lemmas.Bool.{lt-leb}
 use Rattle.std.proofs.lemmas.Option.{slice_get_within}
-use Rattle.uhura_plan.specs.Lists.{Lists}
 use Rattle.uhura_plan.specs.Find.{find_event}
 use Rattle.uhura_plan.specs.Refusals.{event_refusal, event_count}
 use Rattle.uhura_plan.specs.Sound.{AreDistinct}
-use Rattle.uhura_plan.specs.declared.key.EventRef.TheVariants.{Controllable, End}
-use Rattle.uhura_plan.specs.declared.refusal.EditRefusal.TheVariants.{Taken, Full}
+use Rattle.uhura_plan.specs.declared.key.EventRef.TheVariants.{Controllable}
 use Rattle.uhura_veto.specs.State.{State}
 use Rattle.uhura_command.specs.declared.command.Command.TheVariants as command
 use Rattle.uhura_command.specs.Apply.{Applies, of_edit}
 use Rattle.uhura_command.specs.Replay.{Makes}
 use Rattle.uhura_command.proofs.Naming.{take_next, length_before, not_before, not_found}
-use Rattle.uhura_command.proofs.Making.{state_with, makes_each, none_then, passed}
+use Rattle.uhura_command.proofs.Making.{state_with, makes_each}
+use Rattle.uhura_command.proofs.Accepting.{none_then, passed}
 
 module _ (events : List (List ℕ)) (distinct : AreDistinct events) (few : length events ≤ 512) where
   -- the state with the events before a place

@@ -1,33 +1,22 @@
 -- The commands of a plan's durations make its durations.
-use Rattle.std.proofs.Common.{◌≡◌, ℕ, suc, ◌+◌, ◌<◌, ◌≤◌, ◌≤ℤ◌, ℤ, false, List, [], ◌∷◌, ◌++◌, length, take, map, get_or, Option, None, Some, slice_get, option_map, is_some, is_none, int_lt, Contains, All, bytes_eq, refl, sym, ap, subst, ◌∙◌, arith}
+use Rattle.std.proofs.Common.{◌≡◌, ℕ, suc, ◌+◌, ◌<◌, ◌≤◌, false, List, [], length, take, map, None, Some, slice_get, option_map, is_some, is_none, Contains, All, bytes_eq, refl, sym, ap, subst, ◌∙◌, arith}
 use Rattle.std.specs.Option.{option_or}
-use Rattle.std.proofs.lemmas.Bool.{lt-leb, false_from_ne_true}
-use Rattle.std.proofs.lemmas.Bool.Decides.{nat_tests}
-use Rattle.std.proofs.lemmas.Int.{ints}
-use Rattle.std.proofs.lemmas.List.{take-map, length-map, get_or-map}
-use Rattle.std.proofs.lemmas.List.Elements.{Contains-get_or}
+use Rattle.std.proofs.lemmas.Bool.{lt-leb}
 use Rattle.std.proofs.lemmas.Option.{slice_get_within, slice_get-map, get_or_from_slice_get}
-use Rattle.uhura_plan.specs.Lists.{Lists, end_names, uncertain_names}
+use Rattle.uhura_plan.specs.Lists.{Lists, end_names}
 use Rattle.uhura_plan.specs.Find.{find_event, place_of}
-use Rattle.uhura_plan.specs.Limits.{AreOrdered}
-use Rattle.uhura_plan.specs.Refusals.{uncertain_refusal, event_count, empty_between, is_end}
-use Rattle.uhura_plan.specs.Sound.{AreDistinct, HasDistinctNames, IsSoundUncertain}
+use Rattle.uhura_plan.specs.Refusals.{uncertain_refusal, event_count, is_end}
+use Rattle.uhura_plan.specs.Sound.{HasDistinctNames, IsSoundUncertain}
 use Rattle.uhura_plan.specs.declared.key.EventRef.TheVariants.{Controllable, End}
 use Rattle.uhura_plan.specs.declared.uncertain.Uncertain.{Uncertain}
 use Rattle.uhura_veto.specs.State.{State}
-use Rattle.uhura_command.specs.declared.command.Command.{Command}
 use Rattle.uhura_command.specs.Apply.{Applies, of_edit}
 use Rattle.uhura_command.specs.Replay.{Makes}
 use Rattle.uhura_command.specs.Script.{name_at, uncertain_command}
-use Rattle.uhura_command.proofs.Naming.{differ, take_next, length_before, not_before, not_found, new_name, name_there}
+use Rattle.uhura_command.proofs.Naming.{differ, take_next, length_before, not_found, new_name, name_there}
 use Rattle.uhura_command.proofs.FoundEvents.{event_found}
-use Rattle.uhura_command.proofs.Making.{state_with, makes_each, none_then, passed}
-
--- bounds in order aren't refused
-pub not_empty : (lower upper : Option ℤ) → AreOrdered lower upper → empty_between lower upper ≡ None
-not_empty None upper ordered = refl
-not_empty (Some lower) None ordered = refl
-not_empty (Some lower) (Some upper) ordered = passed (int_lt upper lower) _ (grind (arith, ints, nat_tests))
+use Rattle.uhura_command.proofs.Making.{state_with, makes_each}
+use Rattle.uhura_command.proofs.Accepting.{none_then, passed, not_empty}
 
 module _ (plan : Lists) (distinct : HasDistinctNames plan) (sound : All (IsSoundUncertain (length plan.events)) plan.uncertains) (few : length plan.events + length plan.uncertains ≤ 512) (fewer : length plan.uncertains ≤ 256) where
   -- the state with all events and the durations before a place

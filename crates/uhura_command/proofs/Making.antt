@@ -1,14 +1,12 @@
 -- Commands that are accepted one after another.
-use Rattle.std.proofs.Common.{◌≡◌, ℕ, zero, suc, Bool, true, false, List, [], ◌∷◌, ◌++◌, length, map, Option, None, Some, slice_get, refl, sym, ap, subst, ◌∙◌}
-use Rattle.uhura_plan.specs.declared.refusal.EditRefusal.{EditRefusal}
+use Rattle.std.proofs.Common.{◌≡◌, ℕ, zero, suc, List, [], ◌∷◌, ◌++◌, length, map, Some, slice_get, refl, subst}
 use Rattle.uhura_plan.specs.declared.uncertain.Uncertain.{Uncertain}
 use Rattle.uhura_plan.specs.declared.choice.Choice.{Choice}
 use Rattle.uhura_plan.specs.declared.requirement.Requirement.{Requirement}
-use Rattle.uhura_plan.specs.Refusals.{refuse_if, first_of}
 use Rattle.uhura_veto.specs.State.{State}
 use Rattle.uhura_command.specs.declared.command.Command.{Command}
 use Rattle.uhura_command.specs.Apply.{Applies}
-use Rattle.uhura_command.specs.Replay.{Move, Makes}
+use Rattle.uhura_command.specs.Replay.{Makes}
 
 -- the state with these lists in its plan, and no veto
 abbrev pub state_with : List (List ℕ) → List Uncertain → List Choice → List Requirement → State
@@ -30,13 +28,3 @@ makes_each command (x ∷ xs) at step = record {
   applies = step zero x refl;
   rest = makes_each command xs (λ i. at (suc i)) (λ i y there. step (suc i) y there);
 }
-
--- a test that fails refuses nothing
-pub passed : (test : Bool) (refusal : EditRefusal) → test ≡ false → refuse_if test refusal ≡ None
-passed false refusal fails = refl
-passed true refusal fails = let no : ⊥ = cc in absurd no
-
--- where the first refusal isn't there, the others decide
-pub none_then : (refusal : Option EditRefusal) (later : List (Option EditRefusal)) → refusal ≡ None → first_of later ≡ None → first_of (refusal ∷ later) ≡ None
-none_then None later none rest = rest
-none_then (Some refusal) later none rest = let no : ⊥ = cc in absurd no

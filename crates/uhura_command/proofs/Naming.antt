@@ -1,10 +1,10 @@
 -- Where distinct names stand: at their own place, and not before it.
-use Rattle.std.proofs.Common.{◌≡◌, ◌≢◌, ℕ, suc, zero, ◌<◌, ◌≤◌, Bool, true, false, List, [], ◌∷◌, ◌++◌, length, take, map, get_or, Option, None, Some, slice_get, option_map, Contains, bytes_eq, refl, sym, ap, subst, ◌∙◌, true≢false, arith, length-take, length-take-le, get_or-take}
+use Rattle.std.proofs.Common.{◌≡◌, ◌≢◌, ℕ, suc, zero, ◌<◌, false, List, [], ◌∷◌, ◌++◌, length, take, map, get_or, None, Some, slice_get, option_map, Contains, bytes_eq, sym, ap, ◌∙◌, true≢false, arith, length-take, length-take-le, get_or-take}
 use Rattle.std.specs.List.{list_any}
 use Rattle.std.specs.Option.{option_map_or}
 use Rattle.std.proofs.lemmas.Bool.{false_from_ne_true}
 use Rattle.std.proofs.lemmas.Bool.Decides.{nat_tests}
-use Rattle.std.proofs.lemmas.List.{get_or_default, get_or-map, length-map, take-map}
+use Rattle.std.proofs.lemmas.List.{get_or_default, take-map}
 use Rattle.std.proofs.lemmas.List.Folds.{list_any_none}
 use Rattle.std.proofs.lemmas.List.Sums.{position_or_len_is}
 use Rattle.std.proofs.lemmas.Map.Keys.{apart_from_distinct, IsDistinct-from_apart}
@@ -15,7 +15,7 @@ use Rattle.uhura_plan.specs.Find.{place_of}
 use Rattle.uhura_plan.specs.Sound.{AreDistinct}
 use Rattle.uhura_plan.specs.Refusals.{repeated_at}
 use Rattle.uhura_plan.proofs.Literals.{position_none}
-use Rattle.uhura_plan.proofs.Repeats.{repeats, repeated_at-none}
+use Rattle.uhura_plan.proofs.Repeats.{repeated_at-none}
 use Rattle.uhura_command.specs.Script.{name_at}
 
 -- a test of names that differ fails

@@ -1,5 +1,5 @@
 -- The names of a guard's literals spell these literals, also where only the first choices of a plan are there.
-use Rattle.std.proofs.Common.{◌≡◌, ◌≢◌, ℕ, suc, zero, ◌+◌, ◌<◌, ◌≤◌, Bool, true, false, not, List, [], ◌∷◌, length, take, map, get_or, Option, None, Some, slice_get, option_map, option_and_then, is_some, position, All, AllPairs, IsSomeAnd, bytes_eq, refl, sym, ap, subst, ◌∙◌, arith}
+use Rattle.std.proofs.Common.{◌≡◌, ℕ, ◌+◌, ◌<◌, false, not, List, [], ◌∷◌, length, take, map, get_or, Option, None, Some, slice_get, option_map, option_and_then, is_some, All, IsSomeAnd, bytes_eq, refl, sym, ap, subst, ◌∙◌, arith}
 use Rattle.std.specs.List.{list_any}
 use Rattle.std.specs.Option.{option_map_or}
 use Rattle.std.proofs.lemmas.Bool.{or_from}
@@ -14,7 +14,7 @@ use Rattle.uhura_plan.specs.Lists.{Lists, choice_names, alternative_names}
 use Rattle.uhura_plan.specs.Guard.{no_literal}
 use Rattle.uhura_plan.specs.Find.{place_of, choice_named, alternative_named, literal_named}
 use Rattle.uhura_plan.specs.Edits.{AreLiteralsOf}
-use Rattle.uhura_plan.specs.Refusals.{known_names, unknown_in, repeated_at, repeated_in, carried}
+use Rattle.uhura_plan.specs.Refusals.{known_names, unknown_in, repeated_in, carried}
 use Rattle.uhura_plan.specs.Sound.{AreDistinct, IsLiteralAmong, IsGuardAmong}
 use Rattle.uhura_plan.proofs.Literals.{position_none}
 use Rattle.uhura_command.specs.Script.{name_at, literal_names, guard_names}
