@@ -21,6 +21,7 @@ pub mod VerbLemmas
 pub mod CostedLemmas
 pub mod ChoiceLemmas
 pub mod RequireLemmas
+pub mod Beginnings
 pub mod Naming
 pub mod FoundEvents
 pub mod Making

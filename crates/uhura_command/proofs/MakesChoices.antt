@@ -10,7 +10,8 @@ use Rattle.uhura_veto.specs.State.{State}
 use Rattle.uhura_command.specs.Apply.{Applies, of_edit}
 use Rattle.uhura_command.specs.Replay.{Makes}
 use Rattle.uhura_command.specs.Script.{choice_command, guard_names}
-use Rattle.uhura_command.proofs.Naming.{take_next, length_before, new_name, not_repeated}
+use Rattle.uhura_command.proofs.Beginnings.{take_next, length_before}
+use Rattle.uhura_command.proofs.Naming.{new_name, not_repeated}
 use Rattle.uhura_command.proofs.Spelling.{Begins, begins_first, none_unknown, none_repeated, spells}
 use Rattle.uhura_command.proofs.Making.{state_with, makes_each}
 use Rattle.uhura_command.proofs.Products.{product_of_first}

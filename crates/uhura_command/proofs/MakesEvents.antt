@@ -11,7 +11,8 @@ use Rattle.uhura_veto.specs.State.{State}
 use Rattle.uhura_command.specs.declared.command.Command.TheVariants as command
 use Rattle.uhura_command.specs.Apply.{Applies, of_edit}
 use Rattle.uhura_command.specs.Replay.{Makes}
-use Rattle.uhura_command.proofs.Naming.{take_next, length_before, not_before, not_found}
+use Rattle.uhura_command.proofs.Beginnings.{take_next, length_before}
+use Rattle.uhura_command.proofs.Naming.{not_before, not_found}
 use Rattle.uhura_command.proofs.Making.{state_with, makes_each}
 use Rattle.uhura_command.proofs.Accepting.{none_then, passed}
 

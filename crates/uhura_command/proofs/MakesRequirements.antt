@@ -12,7 +12,8 @@ use Rattle.uhura_veto.specs.State.{State}
 use Rattle.uhura_command.specs.Apply.{Applies, of_edit}
 use Rattle.uhura_command.specs.Replay.{Makes, in_slot}
 use Rattle.uhura_command.specs.Script.{event_name, requirement_command, guard_names}
-use Rattle.uhura_command.proofs.Naming.{differ, take_next, length_before, new_name}
+use Rattle.uhura_command.proofs.Beginnings.{take_next, length_before}
+use Rattle.uhura_command.proofs.Naming.{differ, new_name}
 use Rattle.uhura_command.proofs.FoundEvents.{name_found}
 use Rattle.uhura_command.proofs.Spelling.{Begins, none_unknown, none_repeated, spells}
 use Rattle.uhura_command.proofs.Making.{state_with, makes_each}

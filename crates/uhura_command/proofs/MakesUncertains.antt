@@ -13,8 +13,9 @@ use Rattle.uhura_veto.specs.State.{State}
 use Rattle.uhura_command.specs.Apply.{Applies, of_edit}
 use Rattle.uhura_command.specs.Replay.{Makes}
 use Rattle.uhura_command.specs.Script.{name_at, uncertain_command}
-use Rattle.uhura_command.proofs.Naming.{differ, take_next, length_before, not_found, new_name, name_there}
-use Rattle.uhura_command.proofs.FoundEvents.{event_found}
+use Rattle.uhura_command.proofs.Beginnings.{take_next, length_before}
+use Rattle.uhura_command.proofs.Naming.{differ, not_found, new_name, name_there}
+use Rattle.uhura_command.proofs.FoundEvents.{event_found, end_apart}
 use Rattle.uhura_command.proofs.Making.{state_with, makes_each}
 use Rattle.uhura_command.proofs.Accepting.{none_then, passed, not_empty}
 
@@ -40,7 +41,7 @@ module _ (plan : Lists) (distinct : HasDistinctNames plan) (sound : All (IsSound
 
     -- no event has the name of the end
     apart : Contains plan.events u.end → ⊥
-    apart = subst (λ end. Contains plan.events end → ⊥) (get_or_from_slice_get (end_names plan.uncertains) i u.end u.end end_at) (distinct.apart i u.end (slice_get_within (end_names plan.uncertains) i u.end end_at))
+    apart = end_apart plan distinct i u.end end_at
 
     end_new : find_event (before i).plan u.end ≡ None
     end_new =

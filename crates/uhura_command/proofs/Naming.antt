@@ -1,5 +1,5 @@
 -- Where distinct names stand: at their own place, and not before it.
-use Rattle.std.proofs.Common.{◌≡◌, ◌≢◌, ℕ, suc, zero, ◌<◌, false, List, [], ◌∷◌, ◌++◌, length, take, map, get_or, None, Some, slice_get, option_map, Contains, bytes_eq, sym, ap, ◌∙◌, true≢false, arith, length-take, length-take-le, get_or-take}
+use Rattle.std.proofs.Common.{◌≡◌, ◌≢◌, ℕ, ◌<◌, false, List, [], length, take, map, get_or, None, Some, slice_get, option_map, Contains, bytes_eq, sym, ap, ◌∙◌, true≢false, arith, length-take, get_or-take}
 use Rattle.std.specs.List.{list_any}
 use Rattle.std.specs.Option.{option_map_or}
 use Rattle.std.proofs.lemmas.Bool.{false_from_ne_true}
@@ -8,7 +8,7 @@ use Rattle.std.proofs.lemmas.List.{get_or_default, take-map}
 use Rattle.std.proofs.lemmas.List.Folds.{list_any_none}
 use Rattle.std.proofs.lemmas.List.Sums.{position_or_len_is}
 use Rattle.std.proofs.lemmas.Map.Keys.{apart_from_distinct, IsDistinct-from_apart}
-use Rattle.std.proofs.lemmas.Option.{slice_get_within, slice_get-get_or, slice_get-map, get_or_from_slice_get, same_Some}
+use Rattle.std.proofs.lemmas.Option.{slice_get_within, slice_get-get_or, slice_get-map, get_or_from_slice_get}
 use Rattle.std.proofs.lemmas.Slice.Eq.{bytes_eq-Decides}
 use Rattle.std.specs.List.{position_or_len}
 use Rattle.uhura_plan.specs.Find.{place_of}
@@ -17,28 +17,11 @@ use Rattle.uhura_plan.specs.Refusals.{repeated_at}
 use Rattle.uhura_plan.proofs.Literals.{position_none}
 use Rattle.uhura_plan.proofs.Repeats.{repeated_at-none}
 use Rattle.uhura_command.specs.Script.{name_at}
+use Rattle.uhura_command.proofs.Beginnings.{length_before}
 
 -- a test of names that differ fails
 pub differ : (a b : List ℕ) → a ≢ b → bytes_eq a b ≡ false
 differ a b other = false_from_ne_true (bytes_eq a b) (λ same. other ((bytes_eq-Decides a b).0 same))
-
--- one more element of a beginning
-pub take_next : {X : Type 0} (xs : List X) (i : ℕ) (x : X) → slice_get xs i ≡ Some x → take (suc i) xs ≡ take i xs ++ x ∷ []
-take_next [] i x at = let no : ⊥ = cc in absurd no
-take_next (y ∷ ys) zero x at = ap (λ z. z ∷ []) (same_Some y x at)
-take_next (y ∷ ys) (suc i) x at = ap (λ zs. y ∷ zs) (take_next ys i x at)
-
--- what stands in a beginning stands in the whole
-pub slice_get-take : {X : Type 0} (xs : List X) (n i : ℕ) (x : X) → slice_get (take n xs) i ≡ Some x → slice_get xs i ≡ Some x
-slice_get-take [] zero i x at = at
-slice_get-take [] (suc n) i x at = at
-slice_get-take (y ∷ ys) zero i x at = let no : ⊥ = cc in absurd no
-slice_get-take (y ∷ ys) (suc n) zero x at = at
-slice_get-take (y ∷ ys) (suc n) (suc i) x at = slice_get-take ys n i x at
-
--- the beginning before a place is as long as the place says
-pub length_before : {X : Type 0} (xs : List X) (i : ℕ) (x : X) → slice_get xs i ≡ Some x → length (take i xs) ≡ i
-length_before xs i x at = let within : i < length xs = slice_get_within xs i x at in length-take-le i xs (omega arith)
 
 -- none of the names is this one where they don't contain it
 none_is : (names : List (List ℕ)) (name : List ℕ) → (Contains names name → ⊥) → list_any (bytes_eq name) names ≡ false

@@ -6,7 +6,7 @@ use Rattle.std.proofs.lemmas.List.Elements.{All-head, All-tail, All-drop}
 use Rattle.std.proofs.lemmas.List.Sums.{fold-append, fold_push}
 use Rattle.uhura_plan.specs.declared.choice.Choice.{Choice}
 use Rattle.uhura_plan.specs.Sound.{alternatives_product}
-use Rattle.uhura_command.proofs.Naming.{take_next}
+use Rattle.uhura_command.proofs.Beginnings.{take_next}
 
 -- a product grows with each further choice that has an alternative
 product_grows : (choices : List Choice) (so_far : ℕ) → All (λ c. 1 ≤ length c.alternatives) choices → so_far ≤ fold (λ n c. n * length c.alternatives) so_far choices

@@ -18,7 +18,8 @@ use Rattle.uhura_plan.specs.Refusals.{known_names, unknown_in, repeated_in, carr
 use Rattle.uhura_plan.specs.Sound.{AreDistinct, IsLiteralAmong, IsGuardAmong}
 use Rattle.uhura_plan.proofs.Literals.{position_none}
 use Rattle.uhura_command.specs.Script.{name_at, literal_names, guard_names}
-use Rattle.uhura_command.proofs.Naming.{differ, found_at, name_there, not_repeated, distinct_take, slice_get-take}
+use Rattle.uhura_command.proofs.Beginnings.{slice_get-take}
+use Rattle.uhura_command.proofs.Naming.{differ, found_at, name_there, not_repeated, distinct_take}
 
 -- a plan's choices begin those of a whole plan, where names are distinct
 pub record Begins (all choices : List Choice) : Type 0 where
