@@ -26,3 +26,16 @@ pub mod AmongLemmas
 pub mod CommandLimits
 pub mod PartLemmas
 pub mod LineLemmas
+pub mod Beginnings
+pub mod Naming
+pub mod FoundEvents
+pub mod Making
+pub mod MakesEvents
+pub mod MakesUncertains
+pub mod Spelling
+pub mod MakesChoices
+pub mod MakesRequirements
+pub mod MakesPlan
+pub mod Accepting
+pub mod Numbering
+pub mod Products

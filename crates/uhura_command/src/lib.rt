@@ -6,6 +6,7 @@ pub mod law;
 mod literals;
 mod parsing;
 mod refusal;
+pub mod replay;
 mod state;
 mod write;
 
