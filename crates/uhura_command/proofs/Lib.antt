@@ -27,3 +27,9 @@ pub mod VerbLemmas
 pub mod CostedLemmas
 pub mod ChoiceLemmas
 pub mod RequireLemmas
+pub mod Naming
+pub mod FoundEvents
+pub mod Making
+pub mod MakesEvents
+pub mod MakesUncertains
+pub mod Spelling

@@ -24,6 +24,17 @@ abbrev pub Replays : State → List (List ℕ) → State → Type 0
 Replays state [] last = last ≡ state
 Replays state (line ∷ more) last = Step state line (λ next. Replays next more last)
 
+-- a command makes a next state, from which the rest goes on
+pub record Move (state : State) (c : Command) (Rest : State → Type 0) : Type 0 where
+  pub next : State
+  pub applies : Applies state c next
+  pub rest : Rest next
+
+-- each command is accepted, and the last one leaves this state
+abbrev pub Makes : State → List Command → State → Type 0
+Makes state [] last = last ≡ state
+Makes state (c ∷ more) last = Move state c (λ next. Makes next more last)
+
 -- a requirement in this slot
 abbrev pub in_slot : ℕ → Requirement → Requirement
 in_slot slot requirement = record requirement { slot = slot }
