@@ -11,6 +11,7 @@ pub mod CommandLines
 pub mod PlanNumbers
 pub mod PlanNames
 pub mod PlanCommands
+pub mod ScriptReplays
 pub mod Inversions
 pub mod Outcomes
 pub mod SingleLemmas

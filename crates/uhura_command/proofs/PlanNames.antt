@@ -1,5 +1,5 @@
 -- The names that the commands of a sound plan hold are names.
-use Rattle.std.proofs.Common.{◌≡◌, ◌≢◌, ℕ, zero, suc, ◌<◌, true, false, ◌&&◌, List, [], ◌∷◌, length, take, Option, Some, None, slice_get, All, IsSomeAnd, codes, refl, sym, ap, ◌∙◌, arith, true≢false}
+use Rattle.std.proofs.Common.{◌≡◌, ◌≢◌, ℕ, ◌<◌, true, false, ◌&&◌, List, [], ◌∷◌, length, take, Option, Some, None, slice_get, All, IsSomeAnd, codes, refl, sym, ap, ◌∙◌, arith, true≢false}
 use Rattle.std.specs.Option.{option_map_or}
 use Rattle.std.proofs.lemmas.Option.{slice_get-get_or}
 use Rattle.std.proofs.lemmas.List.{length-map}
@@ -12,6 +12,7 @@ use Rattle.uhura_plan.specs.Name.{is_name, is_fixed_word, is_letter, is_name_byt
 use Rattle.uhura_plan.specs.Lists.{Lists, end_names, alternative_names}
 use Rattle.uhura_plan.specs.Sound.{IsName, IsSound, IsSoundChoice, IsSoundUncertain, IsEventAmong, IsLiteralAmong}
 use Rattle.uhura_command.specs.Reads.{are_names}
+use Rattle.uhura_command.proofs.Naming.{slice_get-take}
 use Rattle.uhura_command.specs.Script.{name_at, event_name, literal_names, guard_names}
 
 -- the name at a place of names is a name
@@ -53,18 +54,12 @@ guard_named choices (literal ∷ guard) sound among =
 
 -- ---- a choice's guard is about earlier choices, which are choices of the plan
 
-get_take : {X : Type 0} (xs : List X) (n i : ℕ) (x : X) → slice_get (take n xs) i ≡ Some x → slice_get xs i ≡ Some x
-get_take xs zero i x found = let no : ⊥ = cc in absurd no
-get_take [] (suc n) i x found = found
-get_take (y ∷ xs) (suc n) zero x found = found
-get_take (y ∷ xs) (suc n) (suc i) x found = get_take xs n i x found
-
 pub among_all : (choices : List Choice) (place : ℕ) (literal : Literal) → IsLiteralAmong (take place choices) literal → IsLiteralAmong choices literal
 among_all choices place literal among = by (slice_get (take place choices) literal.choice) refl among
   where
     by : (found : Option Choice) → slice_get (take place choices) literal.choice ≡ found → IsSomeAnd found (λ c. literal.alternative < length c.alternatives) → IsLiteralAmong choices literal
     by None at there = absurd there
-    by (Some c) at there = rw (get_take choices place literal.choice c at) there
+    by (Some c) at there = rw (slice_get-take choices place literal.choice c at) there
 
 -- ---- a name is not `when`
 
