@@ -5,6 +5,13 @@ pub mod OneSpelling
 pub mod ReadsBack
 pub mod Settled
 pub mod Spacing
+pub mod LinesApart
+pub mod LineLengths
+pub mod CommandLines
+pub mod PlanNumbers
+pub mod PlanNames
+pub mod PlanCommands
+pub mod ScriptReplays
 pub mod Inversions
 pub mod Outcomes
 pub mod SingleLemmas
