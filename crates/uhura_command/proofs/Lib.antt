@@ -29,7 +29,6 @@ pub mod CostedLemmas
 pub mod ChoiceLemmas
 pub mod RequireLemmas
 pub mod ScriptLines
-pub mod AmongLemmas
 pub mod CommandLimits
 pub mod PartLemmas
 pub mod LineLemmas

@@ -22,7 +22,7 @@ use Rattle.uhura_command.specs.Reads.{IsCommand, count_word, priced_of, alternat
 use Rattle.uhura_command.specs.Script.{literal_names, guard_names, uncertain_command, choice_command, requirement_command, commands_of}
 use Rattle.uhura_command.proofs.LineLengths.{length-pair_words, length-guard_words, length-rate_words, length-price_words}
 use Rattle.uhura_command.proofs.CommandLines.{FitsLine, few_words}
-use Rattle.uhura_command.proofs.PlanNames.{place_named, event_named, guard_named, among_all, name_not_when}
+use Rattle.uhura_command.proofs.PlanNames.{place_named, event_named, guard_named, literals_among_all, name_not_when}
 use Rattle.uhura_command.proofs.PlanNumbers.{amount_passes, end_passes, rates_pass, bound_passes, price_passes, not_upper, not_when}
 
 -- ---- events
@@ -85,7 +85,7 @@ module _ (plan : Lists) (place : ℕ) (choice : Choice) (sound : IsSound plan) (
       are_alternatives choice.alternatives (recursion_from_All IsName (alternative_names choice) is.names) (recursion_from_All (λ a. IsAmount a.1) choice.alternatives is.costs)
 
   among : All (IsLiteralAmong plan.choices) choice.guard
-  among = All-weaker (IsLiteralAmong (take place plan.choices)) (IsLiteralAmong plan.choices) (λ literal there. among_all plan.choices place literal there) choice.guard is.guard.among
+  among = literals_among_all plan.choices place choice.guard is.guard.among
 
   choice_is_command : IsCommand (choice_command plan choice)
   choice_is_command = record {

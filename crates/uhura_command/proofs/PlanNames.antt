@@ -12,7 +12,7 @@ use Rattle.uhura_plan.specs.Name.{is_name, is_fixed_word, is_letter, is_name_byt
 use Rattle.uhura_plan.specs.Lists.{Lists, end_names, alternative_names}
 use Rattle.uhura_plan.specs.Sound.{IsName, IsSound, IsSoundChoice, IsSoundUncertain, IsEventAmong, IsLiteralAmong}
 use Rattle.uhura_command.specs.Reads.{are_names}
-use Rattle.uhura_command.proofs.Naming.{slice_get-take}
+use Rattle.uhura_command.proofs.Beginnings.{slice_get-take}
 use Rattle.uhura_command.specs.Script.{name_at, event_name, literal_names, guard_names}
 
 -- the name at a place of names is a name
@@ -54,12 +54,16 @@ guard_named choices (literal ∷ guard) sound among =
 
 -- ---- a choice's guard is about earlier choices, which are choices of the plan
 
-pub among_all : (choices : List Choice) (place : ℕ) (literal : Literal) → IsLiteralAmong (take place choices) literal → IsLiteralAmong choices literal
+among_all : (choices : List Choice) (place : ℕ) (literal : Literal) → IsLiteralAmong (take place choices) literal → IsLiteralAmong choices literal
 among_all choices place literal among = by (slice_get (take place choices) literal.choice) refl among
   where
     by : (found : Option Choice) → slice_get (take place choices) literal.choice ≡ found → IsSomeAnd found (λ c. literal.alternative < length c.alternatives) → IsLiteralAmong choices literal
     by None at there = absurd there
     by (Some c) at there = rw (slice_get-take choices place literal.choice c at) there
+
+-- so is a guard of literals
+pub literals_among_all : (choices : List Choice) (place : ℕ) (guard : List Literal) → All (IsLiteralAmong (take place choices)) guard → All (IsLiteralAmong choices) guard
+literals_among_all choices place guard among = All-weaker (IsLiteralAmong (take place choices)) (IsLiteralAmong choices) (among_all choices place) guard among
 
 -- ---- a name is not `when`
 

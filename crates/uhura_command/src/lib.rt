@@ -6,7 +6,6 @@ pub mod law;
 mod literals;
 mod parsing;
 mod refusal;
-pub mod replay;
 mod state;
 mod write;
 

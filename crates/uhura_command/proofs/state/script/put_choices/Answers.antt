@@ -1,7 +1,7 @@
 use Rattle.std.proofs.Common.{◌≡◌, Some, slice_get, sym, ap, ◌∙◌}
 use Rattle.std.specs.Prelude.{option_copied}
 use Rattle.uhura_command.proofs.ScriptLines.{script_more}
-use Rattle.uhura_command.proofs.AmongLemmas.{literals_among_taken}
+use Rattle.uhura_command.proofs.PlanNames.{literals_among_all}
 use Rattle.uhura_command.specs.Script.{choice_command}
 use Rattle.uhura_command.proofs.state.script.put_choices.Goals as goal
 
@@ -14,4 +14,4 @@ pub choice_command-requires : goal.choice_command-requires
 choice_command-requires c =
     let choices = c.args.plan.now.choices in
     let at : slice_get choices c.loop-place.place ≡ Some c.unwrap-choice.result.now = sym c.choice.ensures.choice ∙ ap option_copied c.unwrap-choice.ensures in
-    literals_among_taken choices c.loop-place.place c.unwrap-choice.result.now.guard (c.choice.ensures.sound.choices c.loop-place.place c.unwrap-choice.result.now at).guard.among
+    literals_among_all choices c.loop-place.place c.unwrap-choice.result.now.guard (c.choice.ensures.sound.choices c.loop-place.place c.unwrap-choice.result.now at).guard.among
