@@ -1,4 +1,5 @@
 pub mod Building
+pub mod Entries
 pub mod Events
 pub mod Finds
 pub mod Guards
@@ -9,3 +10,4 @@ pub mod Refusals
 pub mod Repeats
 pub mod Requirements
 pub mod Slots
+pub mod Uncertains

@@ -16,6 +16,9 @@ use std::marker::Model;
 /// The most controllable events and ends of durations together.
 pub const EVENTS: u32 = 512;
 
+/// The most durations.
+pub const UNCERTAINS: u32 = 256;
+
 /// The most requirements at once.
 pub const REQUIREMENTS: u32 = 2048;
 

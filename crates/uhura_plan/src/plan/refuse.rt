@@ -3,6 +3,8 @@ ghost use Rattle.std.specs.Prelude.{◌≡◌, bytes_eq};
 ghost use Rattle.std.specs.List.{list_any};
 ghost use Rattle.uhura_plan.specs.Refusals.{carried, unknown_in, empty_between, repeated_in, requirement_refusal};
 
+mod uncertain;
+
 use super::{Plan, REQUIREMENTS};
 use crate::{Bounded, EditRefusal, Name};
 
