@@ -1,4 +1,5 @@
 pub mod Building
+pub mod Choices
 pub mod Entries
 pub mod Events
 pub mod Finds
@@ -6,6 +7,7 @@ pub mod Guards
 pub mod Literals
 pub mod Names
 pub mod Positions
+pub mod Products
 pub mod Refusals
 pub mod Repeats
 pub mod Requirements

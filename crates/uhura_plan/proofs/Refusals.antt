@@ -1,5 +1,5 @@
 -- What holds where an edit isn't refused.
-use Rattle.std.proofs.Common.{◌≡◌, ℕ, ◌<◌, ◌≤ℤ◌, ℤ, Bool, true, false, not, List, [], ◌∷◌, length, get_or, zero, suc, Option, None, Some, is_some, is_none, position, option_map, int_lt, nat_le, bytes_eq, refl, sym, ap, arith}
+use Rattle.std.proofs.Common.{◌≡◌, ℕ, ◌<◌, ◌≤ℤ◌, ℤ, Bool, true, false, not, List, [], ◌∷◌, length, get_or, zero, suc, Option, None, Some, is_some, is_none, IsSome, All, position, option_map, map, int_lt, nat_le, nat_lt, bytes_eq, refl, sym, ap, true≢false, arith, ◌+◌, ◌≤◌}
 use Rattle.std.specs.List.{list_any}
 use Rattle.std.proofs.lemmas.Bool.Decides.{nat_tests}
 use Rattle.std.proofs.lemmas.Int.{ints}
@@ -7,9 +7,9 @@ use Rattle.uhura_plan.specs.declared.requirement.Bounded.{Bounded}
 use Rattle.uhura_plan.specs.declared.refusal.EditRefusal.{EditRefusal}
 use Rattle.uhura_plan.specs.declared.refusal.EditRefusal.TheVariants.{Taken, Unknown, Kind, Empty, Full}
 use Rattle.uhura_plan.specs.Lists.{Lists}
-use Rattle.uhura_plan.specs.Find.{find_event, uncertain_named, requirement_named, literal_named}
+use Rattle.uhura_plan.specs.Find.{find_event, uncertain_named, choice_named, requirement_named, literal_named}
 use Rattle.uhura_plan.specs.Limits.{AreOrdered}
-use Rattle.uhura_plan.specs.Refusals.{refuse_if, first_of, known_names, unknown_in, repeated_in, empty_between, is_end, event_count, full_of_events, uncertain_refusal, requirement_refusal}
+use Rattle.uhura_plan.specs.Refusals.{refuse_if, first_of, carried, known_names, unknown_in, repeated_at, repeated_in, empty_between, is_end, event_count, full_of_events, uncertain_refusal, product_with, choice_refusal, requirement_refusal}
 use Rattle.uhura_plan.proofs.Positions.{none_passes}
 use Rattle.uhura_plan.proofs.Literals.{or_false}
 
@@ -104,6 +104,47 @@ unrefused_uncertain plan name start end lower upper none =
       event_room = event_room plan (passed 7);
     }
 
+no_value : {X : Type 0} (o : Option X) → is_some o ≡ false → o ≡ None
+no_value None none = refl
+no_value (Some x) none = absurd (true≢false none)
+
+-- what a choice that isn't refused meets
+pub record IsUnrefusedChoice (plan : Lists) (name : List ℕ) (alternatives : List (List ℕ × ℕ)) (guard : List (List ℕ × List ℕ)) : Type 0 where
+  pub name_free : is_some (choice_named plan name) ≡ false
+  pub names_once : repeated_at (map (λ a. a.0) alternatives) ≡ None
+  pub known : unknown_in plan (1 + length alternatives) guard ≡ None
+  pub once : repeated_in guard ≡ None
+  pub room : length plan.choices < 16
+  pub few : length alternatives ≤ 16
+  pub product : product_with plan alternatives ≤ 65536
+
+pub unrefused_choice : (plan : Lists) (name : List ℕ) (alternatives : List (List ℕ × ℕ)) (guard : List (List ℕ × List ℕ)) → choice_refusal plan name alternatives guard ≡ None → IsUnrefusedChoice plan name alternatives guard
+unrefused_choice plan name alternatives guard none =
+    let passed = none_of (
+    refuse_if (is_some (choice_named plan name)) Taken
+    ∷ refuse_if (is_some (repeated_at (map (λ a. a.0) alternatives))) Taken
+    ∷ unknown_in plan (1 + length alternatives) guard
+    ∷ repeated_in guard
+    ∷ refuse_if (nat_le 16 (length plan.choices)) (Full 16 (length plan.choices))
+    ∷ refuse_if (nat_lt 16 (length alternatives)) (Full 16 (carried (length alternatives)))
+    ∷ refuse_if (nat_lt 65536 (product_with plan alternatives)) (Full 65536 (product_with plan alternatives))
+    ∷ []) none in
+    let full = test_fails (nat_le 16 (length plan.choices)) (Full 16 (length plan.choices)) (passed 4) in
+    let many = test_fails (nat_lt 16 (length alternatives)) (Full 16 (carried (length alternatives))) (passed 5) in
+    let over = test_fails (nat_lt 65536 (product_with plan alternatives)) (Full 65536 (product_with plan alternatives)) (passed 6) in
+    record {
+      name_free = test_fails (is_some (choice_named plan name)) Taken (passed 0);
+      names_once = no_value _ (test_fails (is_some (repeated_at (map (λ a. a.0) alternatives))) Taken (passed 1));
+      known = passed 2;
+      once = passed 3;
+      room = let below : length plan.choices < 16 = grind (arith, nat_tests, full) in below;
+      few = let at_most : length alternatives ≤ 16 = grind (arith, nat_tests, many) in at_most;
+      product = within_limit (product_with plan alternatives) 65536 over;
+    }
+  where
+    within_limit : (n limit : ℕ) → nat_lt limit n ≡ false → n ≤ limit
+    within_limit n limit over = grind (arith, nat_tests)
+
 -- no value comes from none
 pub mapped_none : {X Y : Type 0} (f : X → Y) (o : Option X) → option_map f o ≡ None → o ≡ None
 mapped_none f None none = refl
@@ -119,6 +160,6 @@ known_literal plan [] i d known within = absurd (omega (arith, within))
 known_literal plan (names ∷ guard) zero d known within = not_true _ (or_false _ _ (or_false _ _ known).1).0
 known_literal plan (names ∷ guard) (suc i) d known within = known_literal plan guard i d (or_false _ _ (or_false _ _ known).1).1 (omega (arith, within))
 
-pub literal_known : (plan : Lists) (before : ℕ) (guard : List (List ℕ × List ℕ)) (i : ℕ) (d : List ℕ × List ℕ) → unknown_in plan before guard ≡ None → i < length guard → is_some (literal_named plan (get_or guard i d)) ≡ true
-literal_known plan before guard i d none within =
+pub all_known : (plan : Lists) (before : ℕ) (guard : List (List ℕ × List ℕ)) → unknown_in plan before guard ≡ None → All (λ names. IsSome (literal_named plan names)) guard
+all_known plan before guard none = λ i d within.
     known_literal plan guard i d (none_passes not (known_names plan guard) (ap is_some (mapped_none _ (position not (known_names plan guard)) none))) within

@@ -1,9 +1,9 @@
 //! The items that calls state.
-ghost use Rattle.std.specs.Prelude.{◌≡◌, ◌<◌, false, is_none, None, Some, map};
+ghost use Rattle.std.specs.Prelude.{◌≡◌, ◌<◌, false, is_none, None, Some, IsSome, map, All};
 ghost use Rattle.uhura_plan.specs.Find.{find_event, literal_named};
 ghost use Rattle.uhura_plan.specs.Sound.{IsGuardAmong};
 ghost use Rattle.uhura_plan.specs.Edits.{IsRequirementOf};
-ghost use Rattle.uhura_plan.specs.Refusals.{is_end, requirement_refusal, unknown_in, repeated_in};
+ghost use Rattle.uhura_plan.specs.Refusals.{is_end, requirement_refusal, repeated_in};
 
 use super::Plan;
 use super::slot::least_free_slot;
@@ -46,8 +46,8 @@ impl Plan {
     }
 
     /// The guard of literals that are there, no two of them on one choice.
-    fn guard_of(&self, names: &[(Name, Name)]) -> Guard
-        requires known { unknown_in self.now 3 names.now ≡ None }
+    pub(super) fn guard_of(&self, names: &[(Name, Name)]) -> Guard
+        requires known { All (λ literal. IsSome (literal_named self.now literal)) names.now }
         requires once { repeated_in names.now ≡ None }
         ensures found { map (λ literal. Some literal) result ≡ map (literal_named self.now) names.now }
         ensures among { IsGuardAmong self.now.choices result }

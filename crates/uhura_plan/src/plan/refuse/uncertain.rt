@@ -2,7 +2,7 @@
 ghost use Rattle.std.specs.Prelude.{◌≡◌, Some};
 ghost use Rattle.uhura_plan.specs.Refusals.{is_end, full_of_events, uncertain_refusal};
 
-use super::empty_between;
+use super::{empty_between, reached};
 use crate::plan::{EVENTS, Plan, UNCERTAINS};
 use crate::{EditRefusal, EventRef, Name};
 
@@ -36,12 +36,8 @@ impl Plan {
         if let Some(refusal) = empty_between(Some(lower), Some(upper)) {
             return Some(refusal);
         }
-        let has = self.uncertains();
-        if has >= UNCERTAINS {
-            return Some(EditRefusal::Full {
-                limit: UNCERTAINS,
-                has,
-            });
+        if let Some(refusal) = reached(UNCERTAINS, self.uncertains()) {
+            return Some(refusal);
         }
         self.full_of_events()
     }
@@ -50,11 +46,7 @@ impl Plan {
     pub(in crate::plan) fn full_of_events(&self) -> Option<EditRefusal>
         ensures { result ≡ full_of_events self.now }
     {
-        let has = self.events() + self.uncertains();
-        if has >= EVENTS {
-            return Some(EditRefusal::Full { limit: EVENTS, has });
-        }
-        None
+        reached(EVENTS, self.events() + self.uncertains())
     }
 }
 
