@@ -16,6 +16,18 @@ use std::marker::Model;
 /// The most controllable events and ends of durations together.
 pub const EVENTS: u32 = 512;
 
+/// The most durations.
+pub const UNCERTAINS: u32 = 256;
+
+/// The most choices.
+pub const CHOICES: u32 = 16;
+
+/// The most alternatives of one choice.
+pub const ALTERNATIVES: u32 = 16;
+
+/// The most ways to pick an alternative of each choice: the product of the numbers of alternatives.
+pub const BRANCHES: u32 = 65536;
+
 /// The most requirements at once.
 pub const REQUIREMENTS: u32 = 2048;
 

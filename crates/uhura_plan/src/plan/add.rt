@@ -1,11 +1,11 @@
 //! The edits that append an item.
-ghost use Rattle.std.specs.Prelude.{◌≡◌, OnOk, OnErr};
-ghost use Rattle.uhura_plan.specs.Limits.{AreWithinLimits};
-ghost use Rattle.uhura_plan.specs.Edits.{with_event, AddsRequirement};
-ghost use Rattle.uhura_plan.specs.Refusals.{Answers, event_refusal, requirement_refusal};
+ghost use Rattle.std.specs.Prelude.{◌≡◌, ◌≤◌, length, All, IfSome, OnOk, OnErr};
+ghost use Rattle.uhura_plan.specs.Limits.{IsRangeEnd, IsRate, IsAmount, AreWithinLimits};
+ghost use Rattle.uhura_plan.specs.Edits.{with_event, AddsUncertain, AddsChoice, AddsRequirement};
+ghost use Rattle.uhura_plan.specs.Refusals.{Answers, event_refusal, uncertain_refusal, choice_refusal, requirement_refusal};
 
-use super::{EVENTS, Plan};
-use crate::{Bounded, EditRefusal, Name};
+use super::Plan;
+use crate::{Alternatives, Bounded, Choice, EditRefusal, Name, Uncertain};
 
 impl Plan {
     /// Appends a controllable event.
@@ -17,13 +17,83 @@ impl Plan {
         if self.find_event(name).is_some() {
             return Err(EditRefusal::Taken);
         }
-        let has = self.events() + self.uncertains();
-        if has >= EVENTS {
-            return Err(EditRefusal::Full { limit: EVENTS, has });
+        if let Some(refusal) = self.full_of_events() {
+            return Err(refusal);
         }
         // By its type the name is one, as the plan keeps.
         let _ = name.bytes();
         self.events.insert(name)?;
+        Ok(())
+    }
+
+    /// Appends a duration from the controllable event `start` to its own end, an event of the name
+    /// `end`: from `lower` to `upper` units long. A side with a rate may be narrowed at that price a unit.
+    pub fn add_uncertain(
+        &mut self,
+        name: Name,
+        start: Name,
+        end: Name,
+        lower: i64,
+        upper: i64,
+        lower_rate: Option<u32>,
+        upper_rate: Option<u32>,
+    ) -> Result<(), EditRefusal>
+        requires lower { IsRangeEnd lower }
+        requires upper { IsRangeEnd upper }
+        requires lower_rate { IfSome lower_rate IsRate }
+        requires upper_rate { IfSome upper_rate IsRate }
+        ensures answer { Answers (uncertain_refusal self.old name start end lower upper) result }
+        ensures ok { OnOk result (AddsUncertain self.old self.new name start end lower upper lower_rate upper_rate) }
+        ensures err { OnErr result (self.new ≡ self.old) }
+    {
+        if let Some(refusal) = self.uncertain_refusal(name, start, end, lower, upper) {
+            return Err(refusal);
+        }
+        let made = Uncertain {
+            name,
+            start: self.start_of(start),
+            end,
+            lower,
+            upper,
+            lower_rate,
+            upper_rate,
+        };
+        // By their type the names are names, as the plan keeps.
+        let _ = name.bytes();
+        let _ = end.bytes();
+        // With room in both tables neither insertion fails.
+        self.ends.reserve(1)?;
+        self.uncertains.reserve(1)?;
+        self.ends.insert(end).unwrap();
+        self.uncertains.insert(name, made).unwrap();
+        Ok(())
+    }
+
+    /// Appends a choice among at least one alternative, under the guard that the literals spell, each
+    /// by the name of its choice and the name of its alternative.
+    pub fn add_choice(
+        &mut self,
+        name: Name,
+        alternatives: &[(Name, u32)],
+        guard: &[(Name, Name)],
+    ) -> Result<(), EditRefusal>
+        requires some { 1 ≤ length alternatives.now }
+        requires costs { All (λ a. IsAmount a.1) alternatives.now }
+        ensures answer { Answers (choice_refusal self.old name alternatives.now guard.now) result }
+        ensures ok { OnOk result (AddsChoice self.old self.new name alternatives.now guard.now) }
+        ensures err { OnErr result (self.new ≡ self.old) }
+    {
+        if let Some(refusal) = self.choice_refusal(name, alternatives, guard) {
+            return Err(refusal);
+        }
+        let made = Choice {
+            name,
+            alternatives: Alternatives::from_slice(*self.choices.allocator(), alternatives)?,
+            guard: self.guard_of(guard),
+        };
+        // By its type the name is one, as the plan keeps.
+        let _ = name.bytes();
+        self.choices.insert(name, made)?;
         Ok(())
     }
 
