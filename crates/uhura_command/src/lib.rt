@@ -6,6 +6,8 @@ pub mod law;
 mod literals;
 mod parsing;
 mod refusal;
+#[cfg(test)]
+mod tests;
 mod write;
 
 pub use command::{Command, ItemName};
