@@ -7,6 +7,8 @@ mod literals;
 mod parsing;
 mod refusal;
 mod state;
+#[cfg(test)]
+mod tests;
 mod write;
 
 pub use command::{Command, ItemName};

@@ -2,6 +2,7 @@
 ghost use Rattle.std.specs.Prelude.{◌≡◌, IfOk};
 ghost use Rattle.uhura_command.specs.State.{state_of, empty_state};
 
+mod apply;
 mod refusal;
 mod script;
 
