@@ -1,7 +1,10 @@
 pub mod Building
+pub mod ChangedRequirement
+pub mod Entries
 pub mod Events
 pub mod Finds
 pub mod Guards
+pub mod Kept
 pub mod Literals
 pub mod Names
 pub mod Positions

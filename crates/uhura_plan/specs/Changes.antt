@@ -1,5 +1,5 @@
 -- What an edit changes in a plan's item, or drops. All else stays.
-use Rattle.std.specs.Prelude.{ℕ, ℤ, Bool, not, if◌then◌else◌, List, map, filter, Option, bytes_eq}
+use Rattle.std.specs.Prelude.{ℕ, ℤ, not, if◌then◌else◌, List, map, filter, Option, bytes_eq}
 use Rattle.uhura_plan.specs.declared.key.Side.{Side}
 use Rattle.uhura_plan.specs.declared.key.Side.TheVariants.{Lower, Upper}
 use Rattle.uhura_plan.specs.declared.uncertain.Uncertain.{Uncertain}

@@ -3,6 +3,7 @@ ghost use Rattle.std.specs.Prelude.{◌≡◌, IfOk};
 ghost use Rattle.uhura_plan.specs.Lists.{empty};
 
 mod add;
+mod change;
 mod look_up;
 mod made;
 mod refuse;

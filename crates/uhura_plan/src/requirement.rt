@@ -1,5 +1,8 @@
 //! A bound on the difference of two event times, from below, from above or both.
-use crate::{EventRef, Guard, Name};
+ghost use Rattle.std.specs.Prelude.{◌≡◌};
+ghost use Rattle.uhura_plan.specs.Changes.{with_price};
+
+use crate::{EventRef, Guard, Name, Side};
 
 /// The price of loosening a side by one unit, from 1 to 1,000,000, and the most units it may be loosened by.
 #[derive(Clone, Copy, Debug, PartialEq, Eq)]
@@ -27,4 +30,16 @@ pub struct Requirement {
     pub lower: Bounded,
     pub upper: Bounded,
     pub guard: Guard,
+}
+
+impl Requirement {
+    /// Puts the price on the side.
+    pub(crate) fn set_price(&mut self, side: Side, price: Option<Price>)
+        ensures { self.new ≡ with_price side price self.old }
+    {
+        match side {
+            Side::Lower => self.lower.price = price,
+            Side::Upper => self.upper.price = price,
+        }
+    }
 }

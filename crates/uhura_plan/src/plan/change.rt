@@ -1,0 +1,41 @@
+//! The edits that change an item in place, or take it out. They take no memory.
+ghost use Rattle.std.specs.Prelude.{◌≡◌, OnOk, OnErr, IfSome};
+ghost use Rattle.uhura_plan.specs.Limits.{IsPrice};
+ghost use Rattle.uhura_plan.specs.Changes.{with_price, change_requirement, without_requirement};
+ghost use Rattle.uhura_plan.specs.Refusals.{AnswersAlways, no_requirement};
+
+use super::Plan;
+use crate::{EditRefusal, Name, Price, Side};
+
+impl Plan {
+    /// Takes a requirement out. Those behind it close up, and keep their slots.
+    pub fn drop_requirement(&mut self, name: Name) -> Result<(), EditRefusal>
+        ensures answer { AnswersAlways (no_requirement self.old name) result }
+        ensures ok { OnOk result (self.new ≡ without_requirement name self.old) }
+        ensures err { OnErr result (self.new ≡ self.old) }
+    {
+        if self.requirements.shift_remove(&name).is_none() {
+            return Err(EditRefusal::Unknown { which: 0 });
+        }
+        Ok(())
+    }
+
+    /// Puts a price on a side of a requirement, or takes it away.
+    pub fn set_price(
+        &mut self,
+        name: Name,
+        side: Side,
+        price: Option<Price>,
+    ) -> Result<(), EditRefusal>
+        requires { IfSome price IsPrice }
+        ensures answer { AnswersAlways (no_requirement self.old name) result }
+        ensures ok { OnOk result (self.new ≡ change_requirement (with_price side price) name self.old) }
+        ensures err { OnErr result (self.new ≡ self.old) }
+    {
+        let Some(requirement) = self.requirements.get_mut(&name) else {
+            return Err(EditRefusal::Unknown { which: 0 });
+        };
+        requirement.set_price(side, price);
+        Ok(())
+    }
+}
