@@ -1,5 +1,5 @@
 -- A plan with one requirement changed, or without it, is sound.
-use Rattle.std.proofs.Common.{◌≡◌, ◌≢◌, ℕ, ◌<◌, ◌≤◌, Bool, List, [], ◌∷◌, get_or, map, filter, not, length, Option, Some, None, is_some, true, false, bytes_eq, All, AllPairs, IfSome, if◌then◌else◌, refl, sym, ap, subst, ◌∙◌, arith}
+use Rattle.std.proofs.Common.{◌≡◌, ◌≢◌, ℕ, ℤ, ◌<◌, ◌≤◌, Bool, List, [], ◌∷◌, get_or, map, filter, not, length, Option, Some, None, is_some, option_and_then, true, false, bytes_eq, All, AllPairs, IfSome, if◌then◌else◌, refl, sym, ap, subst, ◌∙◌, arith}
 use Rattle.std.specs.Map.{keys_of, values_of, lookup, set_value, remove_entry}
 use Rattle.std.proofs.lemmas.List.{length-map, get_or-map}
 use Rattle.std.proofs.lemmas.List.Elements.{All-weaker, All-filter}
@@ -7,6 +7,7 @@ use Rattle.std.proofs.lemmas.List.Kept.{AllPairs-filter}
 use Rattle.std.proofs.lemmas.List.Sums.{length-filter, count_by-le-length}
 use Rattle.std.proofs.lemmas.Map.{keys-set_value}
 use Rattle.std.proofs.lemmas.Map.Made.{AllPairs-from_IsDistinct, IsDistinct-from_AllPairs}
+use Rattle.std.proofs.lemmas.Map.Steps.{set_value_same}
 use Rattle.std.proofs.lemmas.Map.Views.{All-values-set_value, IfSome-lookup_from_All}
 use Rattle.std.proofs.lemmas.Slice.Eq.{bytes_eq-Decides}
 use Rattle.uhura_plan.specs.declared.uncertain.Uncertain.{Uncertain}
@@ -15,14 +16,17 @@ use Rattle.uhura_plan.specs.declared.key.Side.{Side}
 use Rattle.uhura_plan.specs.declared.key.Side.TheVariants.{Lower, Upper}
 use Rattle.uhura_plan.specs.declared.requirement.Price.{Price}
 use Rattle.uhura_plan.specs.declared.requirement.Requirement.{Requirement}
+use Rattle.uhura_plan.specs.declared.refusal.EditRefusal.{EditRefusal}
 use Rattle.uhura_plan.specs.declared.refusal.EditRefusal.TheVariants.{Unknown}
 use Rattle.uhura_plan.specs.Lists.{Lists, requirement_names, slots}
-use Rattle.uhura_plan.specs.Limits.{IsPrice}
+use Rattle.uhura_plan.specs.Find.{requirement_of}
+use Rattle.uhura_plan.specs.Limits.{IsBound, IsPrice}
 use Rattle.uhura_plan.specs.Sound.{AreDistinct, IsSoundRequirement, IsSound}
 use Rattle.uhura_plan.specs.Tables.{lists_of, HoldsPlan}
-use Rattle.uhura_plan.specs.Changes.{with_price, change_requirement, without_requirement}
-use Rattle.uhura_plan.specs.Refusals.{no_requirement}
-use Rattle.uhura_plan.proofs.Entries.{AreNamed, AreNamed-remove, refused_absent, unrefused_present, changed_by_name, removed_by_name, kept_by_write}
+use Rattle.uhura_plan.specs.Changes.{with_bound, with_price, change_requirement, without_requirement}
+use Rattle.uhura_plan.specs.Refusals.{first_of, empty_between, no_requirement, bound_refusal}
+use Rattle.uhura_plan.proofs.Entries.{AreNamed, AreNamed-remove, refused_absent, unrefused_present, lookup_by_name, changed_by_name, removed_by_name, kept_by_write}
+use Rattle.uhura_plan.proofs.Refusals.{bounds_ordered}
 use Rattle.uhura_plan.proofs.Kept.{IsSoundRequirement-kept}
 
 -- what holds of each two images holds of each two elements by their images
@@ -79,6 +83,15 @@ pub record StaysSound (old new : Requirement) : Type 0 where
   pub slot : new.slot ≡ old.slot
   pub sound : (plan : Lists) → IsSoundRequirement plan old → IsSoundRequirement plan new
 
+-- the refusal of the bound for a requirement that was looked up
+abbrev empty_with : Side → Option ℤ → Option Requirement → Option EditRefusal
+empty_with side bound requirement = option_and_then (λ r. empty_between (with_bound side bound r).lower.bound (with_bound side bound r).upper.bound) requirement
+
+-- the first of one refusal
+first_of_one : (refusal : Option EditRefusal) → first_of (refusal ∷ []) ≡ refusal
+first_of_one None = refl
+first_of_one (Some refusal) = refl
+
 module _ (events ends : List (List ℕ)) (uncertains : List (List ℕ × Uncertain)) (choices : List (List ℕ × Choice)) (entries : List (List ℕ × Requirement)) (plan : Lists) (name : List ℕ)
     (view : lists_of events uncertains choices entries ≡ plan) (held : HoldsPlan events ends uncertains choices entries) where
   -- the keys are distinct, as the names are
@@ -98,6 +111,22 @@ module _ (events ends : List (List ℕ)) (uncertains : List (List ℕ × Uncerta
   pub no_requirement-present : is_some (lookup (bytes_eq name) entries) ≡ true → no_requirement plan name ≡ None
   no_requirement-present present =
       ap (λ p. no_requirement p name) (sym view) ∙ unrefused_present (λ r. r.name) name (Unknown 0) entries held.requirement_keys present
+
+  -- a bound for it is refused alike
+  pub bound_refusal-absent : (side : Side) (bound : Option ℤ) → is_some (lookup (bytes_eq name) entries) ≡ false → bound_refusal plan name side bound ≡ Some (Unknown 0)
+  bound_refusal-absent side bound absent =
+      let Refused : Option EditRefusal → Option EditRefusal = λ r. first_of (r ∷ empty_with side bound (requirement_of plan name) ∷ []) in
+      ap Refused (no_requirement-absent absent)
+
+  -- a bound for a requirement that is there is refused where nothing lies between its bounds with it
+  pub bound_refusal-present : (side : Side) (bound : Option ℤ) (item : Requirement) → lookup (bytes_eq name) entries ≡ Some item
+      → bound_refusal plan name side bound ≡ empty_between (with_bound side bound item).lower.bound (with_bound side bound item).upper.bound
+  bound_refusal-present side bound item present =
+      let Refused : Option EditRefusal → Option EditRefusal = λ r. first_of (r ∷ empty_with side bound (requirement_of plan name) ∷ []) in
+      let there : requirement_of plan name ≡ Some item =
+      ap (λ p. requirement_of p name) (sym view) ∙ (sym (lookup_by_name (λ r. r.name) name entries held.requirement_keys) ∙ present) in
+      ap Refused (no_requirement-present (ap is_some present))
+      ∙ (first_of_one (empty_with side bound (requirement_of plan name)) ∙ ap (empty_with side bound) there)
 
   module _ (new : List (List ℕ × Requirement)) (removed : new ≡ remove_entry (bytes_eq name) entries) where
     -- the requirements of other names are left
@@ -126,6 +155,14 @@ module _ (events ends : List (List ℕ)) (uncertains : List (List ℕ × Uncerta
               (filtered_pairs ◌≢◌ (λ r. r.slot) keep old held.sound.distinct.slots)
               (All-filter keep (IsSoundRequirement (lists_of events uncertains choices entries)) old held.sound.requirements));
         }
+
+  module _ (new : List (List ℕ × Requirement)) (item : Requirement) (found : lookup (bytes_eq name) entries ≡ Some item) (written : new ≡ set_value (bytes_eq name) entries item) where
+    -- what a look-up found, written back, leaves the plan as it was
+    pub view-written_back : lists_of events uncertains choices new ≡ plan
+    view-written_back = ap (λ rs. of_requirements (values_of rs)) (written ∙ set_value_same (bytes_eq name) entries item found) ∙ view
+
+    pub HoldsPlan-written_back : HoldsPlan events ends uncertains choices new
+    HoldsPlan-written_back = subst (HoldsPlan events ends uncertains choices) (sym (written ∙ set_value_same (bytes_eq name) entries item found)) held
 
   module _ (new : List (List ℕ × Requirement)) (item changed : Requirement) (found : lookup (bytes_eq name) entries ≡ Some item) (written : new ≡ set_value (bytes_eq name) entries changed) where
     -- the tables hold the plan with the requirement changed
@@ -188,6 +225,40 @@ StaysSound-with_price Upper price requirement limited = record {
     lower = old.lower;
     upper = record { bound = old.upper.bound; price = limited };
     ordered = old.ordered;
+    guard = old.guard;
+  };
+}
+
+-- another bound for a side keeps a requirement sound, where something lies between its bounds
+pub StaysSound-with_bound : (side : Side) (bound : Option ℤ) (requirement : Requirement) → IfSome bound IsBound
+    → empty_between (with_bound side bound requirement).lower.bound (with_bound side bound requirement).upper.bound ≡ None → StaysSound requirement (with_bound side bound requirement)
+StaysSound-with_bound Lower bound requirement limited none = record {
+  name = refl;
+  slot = refl;
+  sound = λ plan old. record {
+    name = old.name;
+    slot = old.slot;
+    from = old.from;
+    to = old.to;
+    two_events = old.two_events;
+    lower = record { bound = limited; price = old.lower.price };
+    upper = old.upper;
+    ordered = bounds_ordered bound requirement.upper.bound none;
+    guard = old.guard;
+  };
+}
+StaysSound-with_bound Upper bound requirement limited none = record {
+  name = refl;
+  slot = refl;
+  sound = λ plan old. record {
+    name = old.name;
+    slot = old.slot;
+    from = old.from;
+    to = old.to;
+    two_events = old.two_events;
+    lower = old.lower;
+    upper = record { bound = limited; price = old.upper.price };
+    ordered = bounds_ordered requirement.lower.bound bound none;
     guard = old.guard;
   };
 }

@@ -1,6 +1,6 @@
 //! A bound on the difference of two event times, from below, from above or both.
 ghost use Rattle.std.specs.Prelude.{◌≡◌};
-ghost use Rattle.uhura_plan.specs.Changes.{with_price};
+ghost use Rattle.uhura_plan.specs.Changes.{with_bound, with_price};
 
 use crate::{EventRef, Guard, Name, Side};
 
@@ -33,6 +33,27 @@ pub struct Requirement {
 }
 
 impl Requirement {
+    /// The lower and the upper bound, where the side has this one.
+    pub(crate) fn bounds_with(&self, side: Side, bound: Option<i64>) -> (Option<i64>, Option<i64>)
+        ensures lower { result.0 ≡ (with_bound side bound self.now).lower.bound }
+        ensures upper { result.1 ≡ (with_bound side bound self.now).upper.bound }
+    {
+        match side {
+            Side::Lower => (bound, self.upper.bound),
+            Side::Upper => (self.lower.bound, bound),
+        }
+    }
+
+    /// Puts the bound on the side.
+    pub(crate) fn set_bound(&mut self, side: Side, bound: Option<i64>)
+        ensures { self.new ≡ with_bound side bound self.old }
+    {
+        match side {
+            Side::Lower => self.lower.bound = bound,
+            Side::Upper => self.upper.bound = bound,
+        }
+    }
+
     /// Puts the price on the side.
     pub(crate) fn set_price(&mut self, side: Side, price: Option<Price>)
         ensures { self.new ≡ with_price side price self.old }

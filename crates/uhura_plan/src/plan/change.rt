@@ -1,10 +1,11 @@
 //! The edits that change an item in place, or take it out. They take no memory.
 ghost use Rattle.std.specs.Prelude.{◌≡◌, OnOk, OnErr, IfSome};
-ghost use Rattle.uhura_plan.specs.Limits.{IsPrice};
-ghost use Rattle.uhura_plan.specs.Changes.{with_price, change_requirement, without_requirement};
-ghost use Rattle.uhura_plan.specs.Refusals.{AnswersAlways, no_requirement};
+ghost use Rattle.uhura_plan.specs.Limits.{IsBound, IsPrice};
+ghost use Rattle.uhura_plan.specs.Changes.{with_bound, with_price, change_requirement, without_requirement};
+ghost use Rattle.uhura_plan.specs.Refusals.{AnswersAlways, no_requirement, bound_refusal};
 
 use super::Plan;
+use super::refuse::empty_between;
 use crate::{EditRefusal, Name, Price, Side};
 
 impl Plan {
@@ -17,6 +18,29 @@ impl Plan {
         if self.requirements.shift_remove(&name).is_none() {
             return Err(EditRefusal::Unknown { which: 0 });
         }
+        Ok(())
+    }
+
+    /// Puts a bound on a side of a requirement, or takes it away.
+    pub fn set_bound(
+        &mut self,
+        name: Name,
+        side: Side,
+        bound: Option<i64>,
+    ) -> Result<(), EditRefusal>
+        requires { IfSome bound IsBound }
+        ensures answer { AnswersAlways (bound_refusal self.old name side bound) result }
+        ensures ok { OnOk result (self.new ≡ change_requirement (with_bound side bound) name self.old) }
+        ensures err { OnErr result (self.new ≡ self.old) }
+    {
+        let Some(requirement) = self.requirements.get_mut(&name) else {
+            return Err(EditRefusal::Unknown { which: 0 });
+        };
+        let (lower, upper) = requirement.bounds_with(side, bound);
+        if let Some(refusal) = empty_between(lower, upper) {
+            return Err(refusal);
+        }
+        requirement.set_bound(side, bound);
         Ok(())
     }
 

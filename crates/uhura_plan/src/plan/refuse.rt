@@ -71,7 +71,7 @@ impl Plan {
 }
 
 /// The refusal of a lower bound above the upper bound.
-fn empty_between(lower: Option<i64>, upper: Option<i64>) -> Option<EditRefusal>
+pub(super) fn empty_between(lower: Option<i64>, upper: Option<i64>) -> Option<EditRefusal>
     ensures { result ≡ empty_between lower upper }
 {
     match (lower, upper) {
