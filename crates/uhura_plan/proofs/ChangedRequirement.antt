@@ -25,7 +25,7 @@ use Rattle.uhura_plan.specs.Sound.{AreDistinct, IsSoundRequirement, IsSound}
 use Rattle.uhura_plan.specs.Tables.{lists_of, HoldsPlan}
 use Rattle.uhura_plan.specs.Changes.{with_bound, with_price, change_requirement, without_requirement}
 use Rattle.uhura_plan.specs.Refusals.{first_of, empty_between, no_requirement, bound_refusal}
-use Rattle.uhura_plan.proofs.Entries.{AreNamed, AreNamed-remove, refused_absent, unrefused_present, lookup_by_name, changed_by_name, removed_by_name, kept_by_write}
+use Rattle.uhura_plan.proofs.Entries.{AreNamed, AreNamed-remove, first_of_one, refused_absent, unrefused_present, lookup_by_name, changed_by_name, removed_by_name, kept_by_write}
 use Rattle.uhura_plan.proofs.Refusals.{bounds_ordered}
 use Rattle.uhura_plan.proofs.Kept.{IsSoundRequirement-kept}
 
@@ -86,11 +86,6 @@ pub record StaysSound (old new : Requirement) : Type 0 where
 -- the refusal of the bound for a requirement that was looked up
 abbrev empty_with : Side → Option ℤ → Option Requirement → Option EditRefusal
 empty_with side bound requirement = option_and_then (λ r. empty_between (with_bound side bound r).lower.bound (with_bound side bound r).upper.bound) requirement
-
--- the first of one refusal
-first_of_one : (refusal : Option EditRefusal) → first_of (refusal ∷ []) ≡ refusal
-first_of_one None = refl
-first_of_one (Some refusal) = refl
 
 module _ (events ends : List (List ℕ)) (uncertains : List (List ℕ × Uncertain)) (choices : List (List ℕ × Choice)) (entries : List (List ℕ × Requirement)) (plan : Lists) (name : List ℕ)
     (view : lists_of events uncertains choices entries ≡ plan) (held : HoldsPlan events ends uncertains choices entries) where

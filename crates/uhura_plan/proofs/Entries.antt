@@ -9,7 +9,7 @@ use Rattle.std.proofs.lemmas.Slice.Eq.{bytes_eq-Decides}
 use Rattle.uhura_plan.specs.declared.refusal.EditRefusal.{EditRefusal}
 use Rattle.uhura_plan.specs.Find.{place_of}
 use Rattle.uhura_plan.specs.Sound.{AreDistinct}
-use Rattle.uhura_plan.specs.Refusals.{refuse_if}
+use Rattle.uhura_plan.specs.Refusals.{refuse_if, first_of}
 use Rattle.uhura_plan.proofs.Literals.{or_false}
 use Rattle.uhura_plan.proofs.Positions.{none_passes, any_passes_at}
 
@@ -22,6 +22,11 @@ is_some-place_of names name = by (place_of names name) refl
     by (Some place) found =
         let at = position-Some (bytes_eq name) names place [] found in
         sym (any_passes_at (bytes_eq name) names place [] at.0 at.1)
+
+-- the first of one refusal
+pub first_of_one : (refusal : Option EditRefusal) → first_of (refusal ∷ []) ≡ refusal
+first_of_one None = refl
+first_of_one (Some refusal) = refl
 
 -- a name that differs from each of a list isn't there
 none_equal : (name : List ℕ) (names : List (List ℕ)) → AllByRecursion (λ other. bytes_eq name other ≡ false) names → list_any (bytes_eq name) names ≡ false

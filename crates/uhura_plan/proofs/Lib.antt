@@ -1,5 +1,6 @@
 pub mod Building
 pub mod ChangedRequirement
+pub mod ChangedUncertain
 pub mod Entries
 pub mod Events
 pub mod Finds

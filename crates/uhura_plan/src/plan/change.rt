@@ -1,8 +1,8 @@
 //! The edits that change an item in place, or take it out. They take no memory.
 ghost use Rattle.std.specs.Prelude.{◌≡◌, OnOk, OnErr, IfSome};
-ghost use Rattle.uhura_plan.specs.Limits.{IsBound, IsPrice};
-ghost use Rattle.uhura_plan.specs.Changes.{with_bound, with_price, change_requirement, without_requirement};
-ghost use Rattle.uhura_plan.specs.Refusals.{AnswersAlways, no_requirement, bound_refusal};
+ghost use Rattle.uhura_plan.specs.Limits.{IsBound, IsPrice, IsRate, IsRangeEnd};
+ghost use Rattle.uhura_plan.specs.Changes.{with_bound, with_price, with_rate, with_range, change_requirement, change_uncertain, without_requirement};
+ghost use Rattle.uhura_plan.specs.Refusals.{AnswersAlways, no_requirement, no_uncertain, bound_refusal, range_refusal};
 
 use super::Plan;
 use super::refuse::empty_between;
@@ -60,6 +60,38 @@ impl Plan {
             return Err(EditRefusal::Unknown { which: 0 });
         };
         requirement.set_price(side, price);
+        Ok(())
+    }
+
+    /// Puts a rate on a side of a duration, or takes it away.
+    pub fn set_rate(&mut self, name: Name, side: Side, rate: Option<u32>) -> Result<(), EditRefusal>
+        requires { IfSome rate IsRate }
+        ensures answer { AnswersAlways (no_uncertain self.old name) result }
+        ensures ok { OnOk result (self.new ≡ change_uncertain (with_rate side rate) name self.old) }
+        ensures err { OnErr result (self.new ≡ self.old) }
+    {
+        let Some(uncertain) = self.uncertains.get_mut(&name) else {
+            return Err(EditRefusal::Unknown { which: 0 });
+        };
+        uncertain.set_rate(side, rate);
+        Ok(())
+    }
+
+    /// Sets both ends of a duration's range.
+    pub fn set_range(&mut self, name: Name, lower: i64, upper: i64) -> Result<(), EditRefusal>
+        requires lower { IsRangeEnd lower }
+        requires upper { IsRangeEnd upper }
+        ensures answer { AnswersAlways (range_refusal self.old name lower upper) result }
+        ensures ok { OnOk result (self.new ≡ change_uncertain (with_range lower upper) name self.old) }
+        ensures err { OnErr result (self.new ≡ self.old) }
+    {
+        let Some(uncertain) = self.uncertains.get_mut(&name) else {
+            return Err(EditRefusal::Unknown { which: 0 });
+        };
+        if let Some(refusal) = empty_between(Some(lower), Some(upper)) {
+            return Err(refusal);
+        }
+        uncertain.set_range(lower, upper);
         Ok(())
     }
 }
