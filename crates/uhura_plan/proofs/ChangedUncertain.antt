@@ -1,5 +1,5 @@
 -- A plan with one duration changed is sound.
-use Rattle.std.proofs.Common.{◌≡◌, ℕ, ℤ, pos, ◌≤ℤ◌, List, ◌∷◌, [], length, map, Option, None, Some, is_some, true, false, Contains, bytes_eq, All, IfSome, if◌then◌else◌, refl, sym, ap, subst, ◌∙◌, w64, rules, arith}
+use Rattle.std.proofs.Common.{◌≡◌, ℕ, ℤ, List, ◌∷◌, [], length, map, Option, None, Some, is_some, true, false, Contains, bytes_eq, All, IfSome, if◌then◌else◌, refl, sym, ap, subst, ◌∙◌, w64, rules, arith}
 use mir.Val.{SFits, to_z, of_z}
 use Rattle.std.specs.Map.{keys_of, values_of, lookup, set_value}
 use Rattle.std.proofs.lemmas.Int.{to_z-of_z}

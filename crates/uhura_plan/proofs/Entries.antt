@@ -1,5 +1,5 @@
 -- A table whose keys are the names of its items: what a look-up finds, a write changes and a removal leaves.
-use Rattle.std.proofs.Common.{◌≡◌, ℕ, Bool, true, false, not, cond, List, [], ◌∷◌, map, filter, Option, None, Some, is_some, is_none, bytes_eq, if◌then◌else◌, refl, sym, ap, subst, ◌∙◌, true≢false}
+use Rattle.std.proofs.Common.{◌≡◌, ℕ, ◌<◌, zero, suc, Bool, true, false, not, cond, List, [], ◌∷◌, length, map, filter, get_or, slice_get, position, Option, None, Some, is_some, is_none, bytes_eq, if◌then◌else◌, refl, sym, ap, subst, ◌∙◌, true≢false, arith}
 use Rattle.std.specs.List.{list_any, find, AllByRecursion}
 use Rattle.std.specs.Map.{keys_of, values_of, lookup, set_value, remove_entry}
 use Rattle.std.proofs.lemmas.List.Quantifiers.{position-Some}
@@ -11,7 +11,7 @@ use Rattle.uhura_plan.specs.Find.{place_of}
 use Rattle.uhura_plan.specs.Sound.{AreDistinct}
 use Rattle.uhura_plan.specs.Refusals.{refuse_if, first_of}
 use Rattle.uhura_plan.proofs.Literals.{or_false}
-use Rattle.uhura_plan.proofs.Positions.{none_passes, any_passes_at}
+use Rattle.uhura_plan.proofs.Positions.{position_map, none_passes, any_passes_at}
 
 -- a name has a place where it is in the list, and nowhere else
 is_some-place_of : (names : List (List ℕ)) (name : List ℕ) → is_some (place_of names name) ≡ list_any (bytes_eq name) names
@@ -32,6 +32,20 @@ first_of_one (Some refusal) = refl
 none_equal : (name : List ℕ) (names : List (List ℕ)) → AllByRecursion (λ other. bytes_eq name other ≡ false) names → list_any (bytes_eq name) names ≡ false
 none_equal name [] differ = refl
 none_equal name (other ∷ names) differ = rw differ.0 (none_equal name names differ.1)
+
+-- where the first that passes stands at the head, or behind a head that fails
+first_at : {X : Type 0} (p : X → Bool) (xs : List X) (place : ℕ) → place < length xs → ((d : X) → p (get_or xs place d) ≡ true) → ((before : ℕ) (d : X) → before < place → p (get_or xs before d) ≡ false) → slice_get xs place ≡ find p xs
+first_at p [] place within passes fails = absurd (omega (arith, within))
+first_at p (x ∷ xs) zero within passes fails = rw (passes x) refl
+first_at p (x ∷ xs) (suc place) within passes fails =
+    rw (fails 0 x (omega arith)) (first_at p xs place (omega (arith, within)) passes (λ before d less. fails (suc before) d (omega (arith, less))))
+
+-- the first that passes is the one at its place
+first_found : {X : Type 0} (p : X → Bool) (xs : List X) (place : ℕ) → position p xs ≡ Some place → slice_get xs place ≡ find p xs
+first_found p [] place found = let no : ⊥ = cc found in absurd no
+first_found p (x ∷ xs) place found =
+    let at = position-Some p (x ∷ xs) place x found in
+    first_at p (x ∷ xs) place at.0 (λ d. (position-Some p (x ∷ xs) place d found).1) (λ before d less. (position-Some p (x ∷ xs) place d found).2 before less)
 
 module _ {X : Type 0} (name_of : X → List ℕ) where
   -- the keys are the names of the items
@@ -73,6 +87,11 @@ module _ {X : Type 0} (name_of : X → List ℕ) where
         let others : AreNamed entries = cc in
         rw first (ap (λ rest. cond (has_name entry.1) (Some entry.1) rest) (lookup_by_name entries others))
 
+    -- the item at the place of the name is the one that the look-up finds
+    pub item_at_place : (entries : List (List ℕ × X)) (place : ℕ) → AreNamed entries → place_of (map name_of (values_of entries)) name ≡ Some place → slice_get (values_of entries) place ≡ lookup (bytes_eq name) entries
+    item_at_place entries place named found =
+        first_found has_name (values_of entries) place (sym (position_map (bytes_eq name) name_of (values_of entries)) ∙ found) ∙ sym (lookup_by_name entries named)
+
     -- where no item has the name, all are of other names
     all_kept : (items : List X) → list_any (bytes_eq name) (map name_of items) ≡ false → filter (λ item. not (has_name item)) items ≡ items
     all_kept [] absent = refl
@@ -81,7 +100,7 @@ module _ {X : Type 0} (name_of : X → List ℕ) where
         rw fails.0 (ap (λ rest. item ∷ rest) (all_kept items fails.1))
 
     -- where no item has the name, none changes
-    none_changed : (change : X → X) (items : List X) → list_any (bytes_eq name) (map name_of items) ≡ false → map (λ item. if has_name item then change item else item) items ≡ items
+    pub none_changed : (change : X → X) (items : List X) → list_any (bytes_eq name) (map name_of items) ≡ false → map (λ item. if has_name item then change item else item) items ≡ items
     none_changed change [] absent = refl
     none_changed change (item ∷ items) absent =
         let fails = or_false (has_name item) (list_any (bytes_eq name) (map name_of items)) absent in

@@ -1,6 +1,8 @@
 pub mod Building
+pub mod ChangedChoice
 pub mod ChangedRequirement
 pub mod ChangedUncertain
+pub mod Costs
 pub mod Entries
 pub mod Events
 pub mod Finds

@@ -1,5 +1,7 @@
 //! A discrete choice among named alternatives.
-ghost use Rattle.std.specs.Prelude.{◌≡◌, ◌≤◌, length, map, position, bytes_eq};
+ghost use Rattle.std.specs.Prelude.{◌≡◌, ◌≤◌, length, map, position, is_some, bytes_eq};
+ghost use Rattle.uhura_plan.specs.Changes.{costs_with};
+ghost use Rattle.uhura_plan.specs.Sound.{AreDistinct};
 ghost use Rattle.uhura_plan.specs.Find.{place_of};
 
 use crate::{Guard, Name};
@@ -39,6 +41,21 @@ impl Alternatives {
         ensures { result.now ≡ self.now }
     {
         self.pairs.as_slice()
+    }
+
+    /// Sets the cost of the alternative of this name, and says whether it is there.
+    pub(crate) fn set_cost(&mut self, name: Name, cost: u32) -> bool
+        requires { AreDistinct (map (λ a. a.0) self.old) }
+        ensures found { result ≡ is_some (place_of (map (λ a. a.0) self.old) name) }
+        ensures costs { self.new ≡ costs_with name cost self.old }
+    {
+        match pair_named(self.pairs.as_slice(), name) {
+            Some(place) => {
+                self.pairs[place].1 = cost;
+                true
+            }
+            None => false,
+        }
     }
 }
 

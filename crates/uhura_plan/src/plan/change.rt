@@ -1,8 +1,8 @@
 //! The edits that change an item in place, or take it out. They take no memory.
 ghost use Rattle.std.specs.Prelude.{◌≡◌, OnOk, OnErr, IfSome};
-ghost use Rattle.uhura_plan.specs.Limits.{IsBound, IsPrice, IsRate, IsRangeEnd};
-ghost use Rattle.uhura_plan.specs.Changes.{with_bound, with_price, with_rate, with_range, change_requirement, change_uncertain, without_requirement};
-ghost use Rattle.uhura_plan.specs.Refusals.{AnswersAlways, no_requirement, no_uncertain, bound_refusal, range_refusal};
+ghost use Rattle.uhura_plan.specs.Limits.{IsBound, IsPrice, IsRate, IsRangeEnd, IsAmount};
+ghost use Rattle.uhura_plan.specs.Changes.{with_bound, with_price, with_rate, with_range, with_cost, change_requirement, change_uncertain, change_choice, without_requirement};
+ghost use Rattle.uhura_plan.specs.Refusals.{AnswersAlways, no_requirement, no_uncertain, bound_refusal, range_refusal, preference_refusal};
 
 use super::Plan;
 use super::refuse::empty_between;
@@ -92,6 +92,27 @@ impl Plan {
             return Err(refusal);
         }
         uncertain.set_range(lower, upper);
+        Ok(())
+    }
+
+    /// Sets the cost of a choice's alternative.
+    pub fn set_preference(
+        &mut self,
+        choice: Name,
+        alternative: Name,
+        cost: u32,
+    ) -> Result<(), EditRefusal>
+        requires { IsAmount cost }
+        ensures answer { AnswersAlways (preference_refusal self.old choice alternative) result }
+        ensures ok { OnOk result (self.new ≡ change_choice (with_cost alternative cost) choice self.old) }
+        ensures err { OnErr result (self.new ≡ self.old) }
+    {
+        let Some(found) = self.choices.get_mut(&choice) else {
+            return Err(EditRefusal::Unknown { which: 0 });
+        };
+        if !found.alternatives.set_cost(alternative, cost) {
+            return Err(EditRefusal::Unknown { which: 1 });
+        }
         Ok(())
     }
 }

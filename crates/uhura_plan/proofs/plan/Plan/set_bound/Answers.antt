@@ -1,5 +1,5 @@
 -- The requirement of the name gets the bound and stays sound, or keeps what it has.
-use Rattle.std.proofs.Common.{◌≡◌, Option, is_some, Ok, Err, refl, sym, ap, subst, ◌∙◌}
+use Rattle.std.proofs.Common.{Option, is_some, Ok, Err, refl, sym, ap, subst, ◌∙◌}
 use Rattle.uhura_plan.specs.declared.refusal.EditRefusal.{EditRefusal}
 use Rattle.uhura_plan.specs.declared.refusal.EditRefusal.TheVariants.{Unknown}
 use Rattle.uhura_plan.specs.Changes.{with_bound}

@@ -1,10 +1,7 @@
 -- The duration of the name gets the range and stays sound, or keeps what it has.
-use Rattle.std.proofs.Common.{◌≡◌, ℤ, Option, Some, is_some, Ok, Err, refl, sym, ap, subst, ◌∙◌, w64}
-use mir.Val.{to_z, of_z}
-use Rattle.uhura_plan.specs.declared.uncertain.Uncertain.{Uncertain}
+use Rattle.std.proofs.Common.{Option, Some, is_some, Ok, Err, refl, sym, ap, subst, ◌∙◌}
 use Rattle.uhura_plan.specs.declared.refusal.EditRefusal.{EditRefusal}
 use Rattle.uhura_plan.specs.declared.refusal.EditRefusal.TheVariants.{Unknown}
-use Rattle.uhura_plan.specs.Limits.{IsRangeEnd}
 use Rattle.uhura_plan.specs.Changes.{with_range}
 use Rattle.uhura_plan.specs.Refusals.{AnswersAlways, empty_between}
 use Rattle.uhura_plan.proofs.ChangedUncertain.{StaysSound, StaysSound-with_range, end_carried, range_refusal-absent, range_refusal-present, view-written_back, HoldsPlan-written_back, view-change_uncertain, HoldsPlan-change_uncertain}
