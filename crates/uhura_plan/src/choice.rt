@@ -8,7 +8,7 @@ use crate::{Guard, Name};
 use std::marker::Model;
 
 /// The alternatives of a choice in order, each with its cost.
-#[derive(Drop)]
+#[derive(Clone, Drop)]
 pub struct Alternatives {
     pairs: Vec<(Name, u32)>,
 }
@@ -78,7 +78,7 @@ pub(crate) fn alternative_place(alternatives: &[(Name, u32)], name: Name) -> Opt
 }
 
 /// A choice: it is made where its guard holds, and its guard names earlier choices alone.
-#[derive(Drop)]
+#[derive(Clone, Drop)]
 pub struct Choice {
     pub name: Name,
     pub alternatives: Alternatives,

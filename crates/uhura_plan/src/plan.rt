@@ -4,6 +4,7 @@ ghost use Rattle.uhura_plan.specs.Lists.{empty};
 
 mod add;
 mod change;
+mod copy;
 mod look_up;
 mod made;
 mod refuse;

@@ -21,7 +21,7 @@ pub struct Bounded {
 
 /// The time of `to` minus the time of `from` is at least the lower bound and at most the upper bound,
 /// where the guard holds. The slot stays with the requirement for as long as it is in the plan.
-#[derive(Drop)]
+#[derive(Clone, Drop)]
 pub struct Requirement {
     pub name: Name,
     pub slot: u32,

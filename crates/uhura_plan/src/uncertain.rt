@@ -6,7 +6,7 @@ use crate::{Name, Side};
 
 /// A duration from the controllable event `start` to its own end, from `lower` to `upper` units long.
 /// A side with a rate may be narrowed at that price a unit.
-#[derive(Drop)]
+#[derive(Clone, Drop)]
 pub struct Uncertain {
     pub name: Name,
     pub start: u32,
