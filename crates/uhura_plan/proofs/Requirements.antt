@@ -21,7 +21,7 @@ use Rattle.uhura_plan.specs.Tables.{lists_of, HoldsPlan}
 use Rattle.uhura_plan.specs.Edits.{IsRequirementOf, with_requirement}
 use Rattle.uhura_plan.specs.Refusals.{requirement_refusal}
 use Rattle.uhura_plan.proofs.Positions.{none_passes}
-use Rattle.uhura_plan.proofs.Entries.{values_added, keys_added}
+use Rattle.uhura_plan.proofs.Inserting.{values_added, keys_added}
 use Rattle.uhura_plan.proofs.Finds.{event_among, same_event}
 use Rattle.uhura_plan.proofs.Refusals.{unrefused, bounds_ordered}
 

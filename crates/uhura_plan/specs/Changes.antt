@@ -1,5 +1,5 @@
 -- What an edit changes in a plan's item, or drops. All else stays.
-use Rattle.std.specs.Prelude.{ℕ, ℤ, Bool, not, if◌then◌else◌, List, map, filter, Option, bytes_eq}
+use Rattle.std.specs.Prelude.{ℕ, ℤ, not, if◌then◌else◌, List, map, filter, Option, bytes_eq}
 use Rattle.uhura_plan.specs.declared.key.Side.{Side}
 use Rattle.uhura_plan.specs.declared.key.Side.TheVariants.{Lower, Upper}
 use Rattle.uhura_plan.specs.declared.uncertain.Uncertain.{Uncertain}
@@ -27,9 +27,13 @@ with_rate Upper rate uncertain = record uncertain { upper_rate = rate }
 abbrev pub with_range : ℤ → ℤ → Uncertain → Uncertain
 with_range lower upper uncertain = record uncertain { lower = lower; upper = upper }
 
+-- alternatives among which that of this name has this cost
+abbrev pub costs_with : List ℕ → ℕ → List (List ℕ × ℕ) → List (List ℕ × ℕ)
+costs_with name cost alternatives = map (λ a. if bytes_eq name a.0 then (a.0, cost) else a) alternatives
+
 -- a choice whose alternative of this name has this cost
 abbrev pub with_cost : List ℕ → ℕ → Choice → Choice
-with_cost alternative cost choice = record choice { alternatives = map (λ a. if bytes_eq alternative a.0 then (a.0, cost) else a) choice.alternatives }
+with_cost alternative cost choice = record choice { alternatives = costs_with alternative cost choice.alternatives }
 
 -- the plan with a change of the requirement of this name
 abbrev pub change_requirement : (Requirement → Requirement) → List ℕ → Lists → Lists

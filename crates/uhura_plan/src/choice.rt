@@ -1,14 +1,15 @@
 //! A discrete choice among named alternatives.
-ghost use Rattle.std.specs.Prelude.{◌≡◌, ◌≤◌, length, map, position, bytes_eq, All, IfOk, OnOk};
+ghost use Rattle.std.specs.Prelude.{◌≡◌, ◌≤◌, length, map, position, is_some, bytes_eq, All, IfOk, OnOk};
+ghost use Rattle.uhura_plan.specs.Changes.{costs_with};
 ghost use Rattle.uhura_plan.specs.Find.{place_of};
-ghost use Rattle.uhura_plan.specs.Sound.{IsName};
+ghost use Rattle.uhura_plan.specs.Sound.{IsName, AreDistinct};
 
 use crate::{Guard, Name};
 use std::alloc::{AllocError, Global};
 use std::marker::Model;
 
 /// The alternatives of a choice in order, each with its cost.
-#[derive(Drop)]
+#[derive(Clone, Drop)]
 pub struct Alternatives {
     pairs: Vec<(Name, u32)>,
 }
@@ -58,6 +59,21 @@ impl Alternatives {
     {
         self.pairs.as_slice()
     }
+
+    /// Sets the cost of the alternative of this name, and says whether it is there.
+    pub(crate) fn set_cost(&mut self, name: Name, cost: u32) -> bool
+        requires { AreDistinct (map (λ a. a.0) self.old) }
+        ensures found { result ≡ is_some (place_of (map (λ a. a.0) self.old) name) }
+        ensures costs { self.new ≡ costs_with name cost self.old }
+    {
+        match pair_named(self.pairs.as_slice(), name) {
+            Some(place) => {
+                self.pairs[place].1 = cost;
+                true
+            }
+            None => false,
+        }
+    }
 }
 
 // The first pair of this name.
@@ -79,7 +95,7 @@ pub(crate) fn alternative_place(alternatives: &[(Name, u32)], name: Name) -> Opt
 }
 
 /// A choice: it is made where its guard holds, and its guard names earlier choices alone.
-#[derive(Drop)]
+#[derive(Clone, Drop)]
 pub struct Choice {
     pub name: Name,
     pub alternatives: Alternatives,

@@ -3,6 +3,8 @@ ghost use Rattle.std.specs.Prelude.{◌≡◌, IfOk};
 ghost use Rattle.uhura_plan.specs.Lists.{empty};
 
 mod add;
+mod change;
+mod copy;
 mod look_up;
 mod made;
 mod refuse;

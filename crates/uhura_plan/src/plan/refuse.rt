@@ -77,7 +77,7 @@ fn reached(limit: u32, has: u32) -> Option<EditRefusal>
 }
 
 /// The refusal of a lower bound above the upper bound.
-fn empty_between(lower: Option<i64>, upper: Option<i64>) -> Option<EditRefusal>
+pub(super) fn empty_between(lower: Option<i64>, upper: Option<i64>) -> Option<EditRefusal>
     ensures { result ≡ empty_between lower upper }
 {
     match (lower, upper) {
