@@ -1,14 +1,20 @@
 -- The numbers of a command that a line can give are within the limits of a plan.
-use Rattle.std.proofs.Common.{◌≡◌, ◌≢◌, ℕ, ℤ, pos, negsuc, ◌≤ℤ◌, Bool, true, false, ◌&&◌, ◌||◌, List, [], ◌∷◌, length, ◌≤◌, Option, Some, None, option_map, IfSome, All, int_le, bytes_eq, codes, refl, sym, ap, ◌∙◌, arith}
+use Rattle.std.proofs.Common.{◌≡◌, ◌≢◌, ℕ, ℤ, pos, negsuc, ◌≤ℤ◌, Bool, true, false, ◌&&◌, ◌||◌, List, [], ◌∷◌, length, ◌≤◌, Option, Some, None, option_map, IfSome, All, int_le, bytes_eq, codes, refl, sym, ap, subst, ◌∙◌, arith}
 use Rattle.std.specs.List.{list_all}
 use Rattle.std.specs.Option.{option_map_or}
 use Rattle.std.proofs.lemmas.Int.{ints}
 use Rattle.std.proofs.lemmas.List.Elements.{All-nil, All-cons}
+use mir.Val.{to_z, of_z}
+use mir.Syntax.{w64}
+use Rattle.uhura_plan.specs.declared.key.Side.{Side}
 use Rattle.uhura_text.specs.Number.{number_of, spelling}
 use Rattle.uhura_plan.specs.declared.requirement.Price.{Price}
 use Rattle.uhura_plan.specs.declared.requirement.Bounded.{Bounded}
 use Rattle.uhura_plan.specs.Limits.{IsBound, IsRangeEnd, IsRate, IsAmount, IsPrice, AreWithinLimits}
-use Rattle.uhura_command.specs.Reads.{count_word, bound_word, priced_of, alternative_pairs, is_number, is_bound, is_rate, is_amount, is_priced, if_there}
+use Rattle.uhura_plan.proofs.ChangedUncertain.{end_carried}
+use Rattle.uhura_command.specs.declared.command.Command.{Command}
+use Rattle.uhura_command.specs.declared.command.Command.TheVariants as command
+use Rattle.uhura_command.specs.Reads.{IsCommand, count_word, bound_word, priced_of, alternative_pairs, is_number, is_bound, is_rate, is_amount, is_priced, if_there}
 use Rattle.uhura_command.proofs.OneSpelling.{AreLimits, is_spelled, bound_limits, amount_limits, rate_limits, not_dash}
 use Rattle.uhura_command.proofs.OneForm.{other_word}
 
@@ -83,3 +89,71 @@ costs_within [] is = All-nil (λ a. IsAmount a.1)
 costs_within (a ∷ more) is =
     let parts = both (is_amount (count_word a.1)) (list_all (λ b. is_amount b.1) (alternative_pairs more)) is in
     All-cons (λ b. IsAmount b.1) a more (amount_within a.1 parts.0) (costs_within more parts.1)
+
+-- ---- each kind of command that holds numbers
+
+-- an end as a register carries it
+carried_end : (z : ℤ) → IsRangeEnd z → IsRangeEnd (to_z w64 (of_z w64 z))
+carried_end z within = subst IsRangeEnd (sym (end_carried z within)) within
+
+pub record UncertainIsWithin (low high : ℤ) (low_rate high_rate : Option ℕ) : Type 0 where
+  pub lower : IsRangeEnd (to_z w64 (of_z w64 low))
+  pub upper : IsRangeEnd (to_z w64 (of_z w64 high))
+  pub lower_rate : IfSome low_rate IsRate
+  pub upper_rate : IfSome high_rate IsRate
+
+pub uncertain_within : (c : Command) (name start end : List ℕ) (lower upper : ℤ) (lower_rate upper_rate : Option ℕ) → IsCommand c
+    → c ≡ command.Uncertain name start end lower upper lower_rate upper_rate → UncertainIsWithin lower upper lower_rate upper_rate
+uncertain_within c name start end lower upper lower_rate upper_rate good is =
+    let numbers = (subst IsCommand is good).numbers in
+    let last = both (is_amount (spelling lower) && is_amount (spelling upper) && if_there is_rate (option_map count_word lower_rate)) (if_there is_rate (option_map count_word upper_rate)) numbers in
+    let third = both (is_amount (spelling lower) && is_amount (spelling upper)) (if_there is_rate (option_map count_word lower_rate)) last.0 in
+    let ends = both (is_amount (spelling lower)) (is_amount (spelling upper)) third.0 in
+    record {
+      lower = carried_end lower (end_within lower ends.0);
+      upper = carried_end upper (end_within upper ends.1);
+      lower_rate = rate_within lower_rate third.1;
+      upper_rate = rate_within upper_rate last.1;
+    }
+
+pub choice_within : (c : Command) (name : List ℕ) (alternatives given : List (List ℕ × ℕ)) (guard : List (List ℕ × List ℕ)) → IsCommand c
+    → c ≡ command.Choice name alternatives guard → given ≡ alternatives → All (λ a. IsAmount a.1) given
+choice_within c name alternatives given guard good is same =
+    subst (λ xs. All (λ a. IsAmount a.1) xs) (sym same) (costs_within alternatives (subst IsCommand is good).numbers)
+
+pub record RequireIsWithin (low high : Bounded) : Type 0 where
+  pub lower : AreWithinLimits low
+  pub upper : AreWithinLimits high
+
+pub require_within : (c : Command) (name from to : List ℕ) (lower upper : Bounded) (guard : List (List ℕ × List ℕ)) → IsCommand c
+    → c ≡ command.Require name from to lower upper guard → RequireIsWithin lower upper
+require_within c name from to lower upper guard good is =
+    let numbers = (subst IsCommand is good).numbers in
+    let last = both (is_bound (bound_word lower.bound) && is_bound (bound_word upper.bound) && option_map_or is_priced (option_map priced_of lower.price) true) (option_map_or is_priced (option_map priced_of upper.price) true) numbers in
+    let third = both (is_bound (bound_word lower.bound) && is_bound (bound_word upper.bound)) (option_map_or is_priced (option_map priced_of lower.price) true) last.0 in
+    let bounds = both (is_bound (bound_word lower.bound)) (is_bound (bound_word upper.bound)) third.0 in
+    record {
+      lower = record { bound = bound_within lower.bound bounds.0; price = price_within lower.price third.1 };
+      upper = record { bound = bound_within upper.bound bounds.1; price = price_within upper.price last.1 };
+    }
+
+pub new_bound_within : (c : Command) (name : List ℕ) (side : Side) (bound : Option ℤ) → IsCommand c → c ≡ command.Bound name side bound → IfSome bound IsBound
+new_bound_within c name side bound good is = bound_within bound (subst IsCommand is good).numbers
+
+pub new_price_within : (c : Command) (name : List ℕ) (side : Side) (price : Option Price) → IsCommand c → c ≡ command.Price name side price → IfSome price IsPrice
+new_price_within c name side price good is = price_within price (subst IsCommand is good).numbers
+
+pub new_rate_within : (c : Command) (name : List ℕ) (side : Side) (rate : Option ℕ) → IsCommand c → c ≡ command.Rate name side rate → IfSome rate IsRate
+new_rate_within c name side rate good is = rate_within rate (subst IsCommand is good).numbers
+
+pub record RangeIsWithin (low high : ℤ) : Type 0 where
+  pub lower : IsRangeEnd (to_z w64 (of_z w64 low))
+  pub upper : IsRangeEnd (to_z w64 (of_z w64 high))
+
+pub range_within : (c : Command) (name : List ℕ) (lower upper : ℤ) → IsCommand c → c ≡ command.Range name lower upper → RangeIsWithin lower upper
+range_within c name lower upper good is =
+    let ends = both (is_amount (spelling lower)) (is_amount (spelling upper)) (subst IsCommand is good).numbers in
+    record { lower = carried_end lower (end_within lower ends.0); upper = carried_end upper (end_within upper ends.1) }
+
+pub new_cost_within : (c : Command) (choice alternative : List ℕ) (cost : ℕ) → IsCommand c → c ≡ command.Prefer choice alternative cost → IsAmount cost
+new_cost_within c choice alternative cost good is = amount_within cost (subst IsCommand is good).numbers

@@ -45,3 +45,4 @@ pub mod MakesPlan
 pub mod Accepting
 pub mod Numbering
 pub mod Products
+pub mod Applying

@@ -25,4 +25,13 @@ impl State {
             plan: Plan::new(alloc)?,
         })
     }
+
+    /// The same state, slots included.
+    pub fn copy(&self) -> Result<State, AllocError>
+        ensures { IfOk result (λ state. state ≡ self.now) }
+    {
+        Ok(State {
+            plan: self.plan.copy()?,
+        })
+    }
 }

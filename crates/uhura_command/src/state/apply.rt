@@ -22,10 +22,10 @@ impl State {
             Command::Deny { .. } | Command::Cap { .. } | Command::Withdraw { .. } => {
                 Err(StateRefusal::Unbuilt)
             }
-            _ => {
-                edit(&mut self.plan, command)?;
-                Ok(())
-            }
+            _ => match edit(&mut self.plan, command) {
+                Ok(()) => Ok(()),
+                Err(refusal) => Err(refusal.into()),
+            },
         }
     }
 }
