@@ -1,5 +1,5 @@
 -- The lines of commands, one behind the other, are each read as its command.
-use Rattle.std.proofs.Common.{◌≡◌, ℕ, ◌≤◌, List, [], ◌∷◌, ◌++◌, length, map, Ok, Some, ap, ◌∙◌, append_assoc}
+use Rattle.std.proofs.Common.{◌≡◌, ℕ, ◌≤◌, List, [], ◌∷◌, ◌++◌, length, map, Ok, Some, refl, sym, ap, ◌∙◌, append_assoc, append-nil}
 use Rattle.std.specs.Prelude.{codes, flat_map}
 use Rattle.std.specs.List.{AllByRecursion}
 use Rattle.uhura_text.specs.Lines.{lines}
@@ -43,14 +43,21 @@ pub commands_parse : (cs : List Command) → AllByRecursion FitsLine cs → AllB
 commands_parse [] fit = tt
 commands_parse (c ∷ cs) fit = (command_parses c fit.0, commands_parse cs fit.1)
 
--- and there are no other lines
-pub lines-commands : (cs : List Command) → AllByRecursion FitsLine cs → lines (flat_map command_line cs) ≡ map command_text cs
-lines-commands [] fit = lines-nil
-lines-commands (c ∷ cs) fit =
+-- they are the first lines, and what is behind them has the others
+pub lines-commands_append : (cs : List Command) (rest : List ℕ) → AllByRecursion FitsLine cs → lines (flat_map command_line cs ++ rest) ≡ map command_text cs ++ lines rest
+lines-commands_append [] rest fit = refl
+lines-commands_append (c ∷ cs) rest fit =
     let text : List ℕ = command_text c in
-    let rest : List ℕ = flat_map command_line cs in
+    let more : List ℕ = flat_map command_line cs in
     let good = good_bytes (words_of (form_of c)) (command_words c fit.0.command) in
-    ap (λ line. lines (line ++ rest)) (line_of-joined (words_of (form_of c)))
-    ∙ (ap lines (append_assoc text (codes "\n") rest)
-    ∙ (lines-cons text rest good fit.0.short
-    ∙ ap (λ (ls : List (List ℕ)). text ∷ ls) (lines-commands cs fit.1)))
+    ap (λ line. lines ((line ++ more) ++ rest)) (line_of-joined (words_of (form_of c)))
+    ∙ (ap lines (append_assoc (text ++ codes "\n") more rest ∙ append_assoc text (codes "\n") (more ++ rest))
+    ∙ (lines-cons text (more ++ rest) good fit.0.short
+    ∙ ap (λ (ls : List (List ℕ)). text ∷ ls) (lines-commands_append cs rest fit.1)))
+
+-- where nothing is behind them there are no others
+pub lines-commands : (cs : List Command) → AllByRecursion FitsLine cs → lines (flat_map command_line cs) ≡ map command_text cs
+lines-commands cs fit =
+    ap lines (sym (append-nil (flat_map command_line cs)))
+    ∙ (lines-commands_append cs [] fit
+    ∙ (ap (λ ls. map command_text cs ++ ls) lines-nil ∙ append-nil (map command_text cs)))

@@ -49,6 +49,7 @@ module _ (plan : Lists) (distinct : AreDistinct (choice_names plan.choices)) (so
     -- the choice at a place is the next
     adds : Applies (before i) (choice_command plan c) (before (suc i))
     adds = record {
+      edits = tt;
       accepted = ap (option_map of_edit) accepted;
       plan = record {
         literals = c.guard;

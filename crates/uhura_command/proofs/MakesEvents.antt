@@ -29,6 +29,7 @@ module _ (events : List (List ℕ)) (distinct : AreDistinct events) (few : lengt
       let room : event_count (before i).plan < 512 = omega (arith, few, slice_get_within events i name at, length_before events i name at) in
       let none : event_refusal (before i).plan name ≡ None = none_then _ _ (passed _ _ (ap is_some new)) (none_then _ _ (passed _ _ (lt-leb _ _ room)) refl) in
       record {
+        edits = tt;
         accepted = ap (option_map of_edit) none;
         plan = ap (λ names. (state_with names [] [] []).plan) (take_next events i name at);
         vetoes = refl;

@@ -71,6 +71,7 @@ module _ (plan : Lists) (distinct : HasDistinctNames plan) (alternatives : (plac
     -- the requirement at a place is the next
     adds : Applies (before i) (requirement_command plan r) (before (suc i))
     adds = record {
+      edits = tt;
       accepted = ap (option_map of_edit) accepted;
       plan = record {
         made = in_slot i r;

@@ -69,6 +69,7 @@ module _ (plan : Lists) (distinct : HasDistinctNames plan) (sound : All (IsSound
     -- the duration at a place is the next
     adds : Applies (before i) (uncertain_command plan u) (before (suc i))
     adds = record {
+      edits = tt;
       accepted = ap (option_map of_edit) accepted;
       plan = record { from = u.start; found = start_found; lists = ap (λ us. (state_with plan.events us [] []).plan) (take_next plan.uncertains i u at) };
       vetoes = refl;

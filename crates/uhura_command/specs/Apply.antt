@@ -64,8 +64,9 @@ Edits old (command.Range name lower upper) new = new ≡ change_uncertain (with_
 Edits old (command.Prefer choice alternative cost) new = new ≡ change_choice (with_cost alternative cost) choice old
 Edits old c new = new ≡ old
 
--- a command makes the next state of this one: it has no refusal, and only what it names is edited
+-- a command that edits makes the next state of this one: it has no refusal, and only what it names is edited
 pub record Applies (state : State) (c : Command) (next : State) : Type 0 where
+  pub edits : IsEdit c
   pub accepted : refusal_of state c ≡ None
   pub plan : Edits state.plan c next.plan
   pub vetoes : next.vetoes ≡ state.vetoes

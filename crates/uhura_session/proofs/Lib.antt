@@ -7,5 +7,5 @@ pub mod PlainBest
 pub mod Walk
 pub mod PlainBounds
 pub mod PlainText
-pub mod PlainEdits
 pub mod Conversing
+pub mod PlainTest

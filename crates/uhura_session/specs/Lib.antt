@@ -1,4 +1,3 @@
-pub mod Reading
 pub mod ProposalText
 pub mod Answers
 pub mod Session
@@ -6,3 +5,4 @@ pub mod Plain
 pub mod Schedule
 pub mod Passes
 pub mod Transcript
+pub mod Line

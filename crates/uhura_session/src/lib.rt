@@ -1,11 +1,13 @@
 //! One dialogue: what is answered to a line, and the state after it.
 #![tactic(auto)]
 
+mod answer;
 mod constraints;
 mod edit;
+mod error;
 mod propose;
-mod reading;
 mod schedule;
 mod session;
 
+pub use answer::Answer;
 pub use session::Session;

@@ -1,17 +1,19 @@
 //! The answer to `propose`: the earliest schedule, or `none`.
-ghost use Rattle.std.specs.Prelude.{◌≡◌, ℕ, ◌+◌, ◌≤◌, ◌++◌, [], ◌∷◌, false, length, replicate, drop, pos, IfOk, codes};
+ghost use Rattle.std.specs.Prelude.{◌≡◌, ℕ, ◌+◌, ◌≤◌, ◌++◌, [], ◌∷◌, true, false, length, replicate, drop, pos, IfOk, codes};
+ghost use Rattle.std.specs.List.{list_all};
 ghost use Rattle.uhura_text.specs.Number.{spelling};
 ghost use Rattle.uhura_plan.specs.Sound.{IsSound};
-ghost use Rattle.uhura_session.specs.ProposalText.{line_of, time_lines, proposal_text};
-ghost use Rattle.uhura_session.specs.declared.reading.Request.TheVariants as asks;
-ghost use Rattle.uhura_session.specs.Answers.{AnswersRequest, IsProposed};
+ghost use Rattle.uhura_command.specs.Written.{line_of};
+ghost use Rattle.uhura_session.specs.ProposalText.{time_lines, proposal_text};
+ghost use Rattle.uhura_session.specs.Answers.{AnswersQuestion, IsProposed, is_plain, is_unpriced};
 ghost use Rattle.uhura_session.specs.Schedule.{time_at};
 ghost use Rattle.uhura_session.specs.Plain.{IsPlain, all_constraints, free, unloosened};
 
 use crate::constraints::collect;
+use crate::error::put_unbuilt;
 use crate::schedule::{Constraint, earliest};
 use std::alloc::AllocError;
-use uhura_plan::{Name, Plan};
+use uhura_plan::{Name, Plan, Requirement};
 use uhura_text::put_number;
 
 /// Appends the line of an event's time.
@@ -82,21 +84,67 @@ fn put_answer(
     Ok(())
 }
 
-/// Answers the question: writes the best proposal into the text, or `none`. The two lists are room to
-/// work in, kept from one question to the next.
-#[tactic(auto, unfolding(crate::specs::Answers::AnswersRequest))]
+/// Writes the best proposal into the text, or `none`. The two lists are room to work in, kept from one question to the
+/// next.
+fn solve(
+    plan: &Plan,
+    constraints: &mut Vec<Constraint>,
+    times: &mut Vec<i64>,
+    text: &mut Vec<u8>,
+) -> Result<(), AllocError>
+    requires plain { IsPlain plan.now }
+    requires empty { text.old.items ≡ [] }
+    ensures { IfOk result (λ _. IsProposed (free plan.now) text.new.items) }
+{
+    collect(constraints, plan)?;
+    clear_times(times, plan.events() as usize)?;
+    put_answer(text, plan, constraints, times)
+}
+
+/// Whether the plan can be asked so far.
+#[tactic(auto, using(crate::proofs::PlainTest::plain_from_test))]
+fn is_plain(plan: &Plan) -> bool
+    ensures plain { result ≡ is_plain plan.now }
+    ensures meets { result ≡ true → IsPlain plan.now }
+{
+    plan.uncertains() == 0 && plan.choices() == 0 && has_no_price(plan)
+}
+
+/// Whether no requirement has a price.
+fn has_no_price(plan: &Plan) -> bool
+    ensures { result ≡ list_all is_unpriced plan.now.requirements }
+{
+    for position in 0..plan.requirements() {
+        let requirement = plan.requirement(position).unwrap();
+        if !is_unpriced(requirement) {
+            return false;
+        }
+    }
+    true
+}
+
+/// Whether neither side of the requirement has a price.
+fn is_unpriced(requirement: &Requirement) -> bool
+    ensures { result ≡ is_unpriced requirement.now }
+{
+    requirement.lower.price.is_none() && requirement.upper.price.is_none()
+}
+
+/// Answers the question, where the plan can be asked so far.
 pub fn propose(
     plan: &Plan,
     constraints: &mut Vec<Constraint>,
     times: &mut Vec<i64>,
     text: &mut Vec<u8>,
 ) -> Result<bool, AllocError>
-    requires plain { IsPlain plan.now }
     requires empty { text.old.items ≡ [] }
-    ensures { IfOk result (λ refused. AnswersRequest asks.Propose (free plan.now) text.new.items refused (free plan.now)) }
+    ensures { IfOk result (λ refused. AnswersQuestion (is_plain plan.now) (free plan.now) text.new.items refused (free plan.now)) }
 {
-    collect(constraints, plan)?;
-    clear_times(times, plan.events() as usize)?;
-    put_answer(text, plan, constraints, times)?;
-    Ok(false)
+    if is_plain(plan) {
+        solve(plan, constraints, times, text)?;
+        Ok(false)
+    } else {
+        put_unbuilt(text)?;
+        Ok(true)
+    }
 }

@@ -4,7 +4,8 @@ use Rattle.std.proofs.lemmas.Int.{ints}
 use mir.Val.{SFits, to_z, of_z}
 use mir.Syntax.{w64}
 use Rattle.uhura_text.specs.Number.{spelling}
-use Rattle.uhura_session.specs.ProposalText.{line_of, time_lines}
+use Rattle.uhura_command.specs.Written.{line_of}
+use Rattle.uhura_session.specs.ProposalText.{time_lines}
 use Rattle.uhura_session.specs.Schedule.{time_at}
 use Rattle.uhura_session.proofs.Walk.{left_at, ended_at, extended}
 use Rattle.uhura_session.proofs.propose.put_times.Goals as goal
