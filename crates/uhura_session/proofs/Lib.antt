@@ -9,3 +9,5 @@ pub mod PlainBounds
 pub mod PlainText
 pub mod Conversing
 pub mod PlainTest
+pub mod AnswersEdits
+pub mod ShowReplays

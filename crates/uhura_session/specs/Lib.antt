@@ -6,3 +6,4 @@ pub mod Schedule
 pub mod Passes
 pub mod Transcript
 pub mod Line
+pub mod ReadsBack

@@ -11,11 +11,7 @@ use uhura_command::{Command, State};
 
 /// Makes of the state what the command says, and writes the answer. `ok` is written first, so that after want of memory
 /// the state is as before.
-pub fn edit(
-    state: &mut State,
-    text: &mut Vec<u8>,
-    command: &Command,
-) -> Result<bool, AllocError>
+pub fn edit(state: &mut State, text: &mut Vec<u8>, command: &Command) -> Result<bool, AllocError>
     requires edit { IsEdit command.now }
     requires command { IsCommand command.now }
     requires empty { text.old.items ≡ [] }

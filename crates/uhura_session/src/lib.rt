@@ -5,6 +5,7 @@ mod answer;
 mod constraints;
 mod edit;
 mod error;
+pub mod law;
 mod propose;
 mod schedule;
 mod session;
