@@ -1,11 +1,15 @@
 pub mod Building
+pub mod Choices
+pub mod Entries
 pub mod Events
 pub mod Finds
 pub mod Guards
 pub mod Literals
 pub mod Names
 pub mod Positions
+pub mod Products
 pub mod Refusals
 pub mod Repeats
 pub mod Requirements
 pub mod Slots
+pub mod Uncertains

@@ -9,7 +9,7 @@ use Rattle.uhura_plan.specs.declared.guard.Literal.{Literal}
 use Rattle.uhura_plan.specs.declared.refusal.EditRefusal.TheVariants.{Unknown}
 use Rattle.uhura_plan.specs.Lists.{Lists}
 use Rattle.uhura_plan.specs.Find.{choice_named, alternative_named, literal_named}
-use Rattle.uhura_plan.specs.Edits.{known_pair, known_names, unknown_in, carried}
+use Rattle.uhura_plan.specs.Refusals.{known_pair, known_names, unknown_in, carried}
 
 -- neither of two tests passes where their disjunction doesn't
 pub or_false : (a b : Bool) → (a || b) ≡ false → (a ≡ false) × (b ≡ false)

@@ -1,5 +1,5 @@
--- What holds where a requirement isn't refused.
-use Rattle.std.proofs.Common.{◌≡◌, ℕ, ◌<◌, ◌≤ℤ◌, ℤ, Bool, true, false, not, List, [], ◌∷◌, length, get_or, zero, suc, Option, None, Some, is_some, is_none, position, option_map, int_lt, nat_le, bytes_eq, refl, sym, ap, arith}
+-- What holds where an edit isn't refused.
+use Rattle.std.proofs.Common.{◌≡◌, ℕ, ◌<◌, ◌≤ℤ◌, ℤ, Bool, true, false, not, List, [], ◌∷◌, length, get_or, zero, suc, Option, None, Some, is_some, is_none, IsSome, All, position, option_map, map, int_lt, nat_le, nat_lt, bytes_eq, refl, sym, ap, true≢false, arith, ◌+◌, ◌≤◌}
 use Rattle.std.specs.List.{list_any}
 use Rattle.std.proofs.lemmas.Bool.Decides.{nat_tests}
 use Rattle.std.proofs.lemmas.Int.{ints}
@@ -7,11 +7,23 @@ use Rattle.uhura_plan.specs.declared.requirement.Bounded.{Bounded}
 use Rattle.uhura_plan.specs.declared.refusal.EditRefusal.{EditRefusal}
 use Rattle.uhura_plan.specs.declared.refusal.EditRefusal.TheVariants.{Taken, Unknown, Kind, Empty, Full}
 use Rattle.uhura_plan.specs.Lists.{Lists}
-use Rattle.uhura_plan.specs.Find.{find_event, requirement_named, literal_named}
+use Rattle.uhura_plan.specs.Find.{find_event, uncertain_named, choice_named, requirement_named, literal_named}
 use Rattle.uhura_plan.specs.Limits.{AreOrdered}
-use Rattle.uhura_plan.specs.Edits.{refuse_if, first_of, known_names, unknown_in, repeated_in, empty_between, requirement_refusal}
+use Rattle.uhura_plan.specs.Refusals.{refuse_if, first_of, carried, known_names, unknown_in, repeated_at, repeated_in, empty_between, is_end, event_count, full_of_events, uncertain_refusal, product_with, choice_refusal, requirement_refusal}
 use Rattle.uhura_plan.proofs.Positions.{none_passes}
 use Rattle.uhura_plan.proofs.Literals.{or_false}
+
+-- where none is the first refusal there is none
+none_of : (refusals : List (Option EditRefusal)) → first_of refusals ≡ None → (i : ℕ) → get_or refusals i None ≡ None
+none_of [] none i = refl
+none_of (None ∷ later) none zero = refl
+none_of (None ∷ later) none (suc i) = none_of later none i
+none_of (Some r ∷ later) none i = let no : ⊥ = cc in absurd no
+
+-- a test without its refusal fails
+test_fails : (test : Bool) (refusal : EditRefusal) → refuse_if test refusal ≡ None → test ≡ false
+test_fails true refusal none = let no : ⊥ = cc in absurd no
+test_fails false refusal none = refl
 
 -- each test of a requirement's refusals fails
 pub record Passes (taken no_from no_to : Bool) (unknown : Option EditRefusal) (one_event : Bool) (empty repeated : Option EditRefusal) (full : Bool) : Type 0 where
@@ -55,6 +67,84 @@ bounds_ordered (Some lower) None none = tt
 bounds_ordered None (Some upper) none = tt
 bounds_ordered None None none = tt
 
+-- what fits in where 512 events and ends aren't there
+pub event_room : (plan : Lists) → full_of_events plan ≡ None → event_count plan < 512
+event_room plan none = let full = test_fails (nat_le 512 (event_count plan)) (Full 512 (event_count plan)) none in grind (arith, nat_tests)
+
+-- what a duration that isn't refused meets
+pub record IsUnrefusedUncertain (plan : Lists) (name start end : List ℕ) (lower upper : ℤ) : Type 0 where
+  pub name_free : is_some (uncertain_named plan name) ≡ false
+  pub end_free : is_some (find_event plan end) ≡ false
+  pub start_there : is_none (find_event plan start) ≡ false
+  pub no_end : is_end (find_event plan start) ≡ false
+  pub ordered : lower ≤ℤ upper
+  pub room : length plan.uncertains < 256
+  pub event_room : event_count plan < 512
+
+pub unrefused_uncertain : (plan : Lists) (name start end : List ℕ) (lower upper : ℤ) → uncertain_refusal plan name start end lower upper ≡ None → IsUnrefusedUncertain plan name start end lower upper
+unrefused_uncertain plan name start end lower upper none =
+    let passed = none_of (
+    refuse_if (is_some (uncertain_named plan name)) Taken
+    ∷ refuse_if (is_some (find_event plan end)) Taken
+    ∷ refuse_if (bytes_eq end start) Taken
+    ∷ refuse_if (is_none (find_event plan start)) (Unknown 1)
+    ∷ refuse_if (is_end (find_event plan start)) Kind
+    ∷ empty_between (Some lower) (Some upper)
+    ∷ refuse_if (nat_le 256 (length plan.uncertains)) (Full 256 (length plan.uncertains))
+    ∷ full_of_events plan
+    ∷ []) none in
+    let full = test_fails (nat_le 256 (length plan.uncertains)) (Full 256 (length plan.uncertains)) (passed 6) in
+    record {
+      name_free = test_fails (is_some (uncertain_named plan name)) Taken (passed 0);
+      end_free = test_fails (is_some (find_event plan end)) Taken (passed 1);
+      start_there = test_fails (is_none (find_event plan start)) (Unknown 1) (passed 3);
+      no_end = test_fails (is_end (find_event plan start)) Kind (passed 4);
+      ordered = bounds_ordered (Some lower) (Some upper) (passed 5);
+      room = let below : length plan.uncertains < 256 = grind (arith, nat_tests, full) in below;
+      event_room = event_room plan (passed 7);
+    }
+
+no_value : {X : Type 0} (o : Option X) → is_some o ≡ false → o ≡ None
+no_value None none = refl
+no_value (Some x) none = absurd (true≢false none)
+
+-- what a choice that isn't refused meets
+pub record IsUnrefusedChoice (plan : Lists) (name : List ℕ) (alternatives : List (List ℕ × ℕ)) (guard : List (List ℕ × List ℕ)) : Type 0 where
+  pub name_free : is_some (choice_named plan name) ≡ false
+  pub names_once : repeated_at (map (λ a. a.0) alternatives) ≡ None
+  pub known : unknown_in plan (1 + length alternatives) guard ≡ None
+  pub once : repeated_in guard ≡ None
+  pub room : length plan.choices < 16
+  pub few : length alternatives ≤ 16
+  pub product : product_with plan alternatives ≤ 65536
+
+pub unrefused_choice : (plan : Lists) (name : List ℕ) (alternatives : List (List ℕ × ℕ)) (guard : List (List ℕ × List ℕ)) → choice_refusal plan name alternatives guard ≡ None → IsUnrefusedChoice plan name alternatives guard
+unrefused_choice plan name alternatives guard none =
+    let passed = none_of (
+    refuse_if (is_some (choice_named plan name)) Taken
+    ∷ refuse_if (is_some (repeated_at (map (λ a. a.0) alternatives))) Taken
+    ∷ unknown_in plan (1 + length alternatives) guard
+    ∷ repeated_in guard
+    ∷ refuse_if (nat_le 16 (length plan.choices)) (Full 16 (length plan.choices))
+    ∷ refuse_if (nat_lt 16 (length alternatives)) (Full 16 (carried (length alternatives)))
+    ∷ refuse_if (nat_lt 65536 (product_with plan alternatives)) (Full 65536 (product_with plan alternatives))
+    ∷ []) none in
+    let full = test_fails (nat_le 16 (length plan.choices)) (Full 16 (length plan.choices)) (passed 4) in
+    let many = test_fails (nat_lt 16 (length alternatives)) (Full 16 (carried (length alternatives))) (passed 5) in
+    let over = test_fails (nat_lt 65536 (product_with plan alternatives)) (Full 65536 (product_with plan alternatives)) (passed 6) in
+    record {
+      name_free = test_fails (is_some (choice_named plan name)) Taken (passed 0);
+      names_once = no_value _ (test_fails (is_some (repeated_at (map (λ a. a.0) alternatives))) Taken (passed 1));
+      known = passed 2;
+      once = passed 3;
+      room = let below : length plan.choices < 16 = grind (arith, nat_tests, full) in below;
+      few = let at_most : length alternatives ≤ 16 = grind (arith, nat_tests, many) in at_most;
+      product = within_limit (product_with plan alternatives) 65536 over;
+    }
+  where
+    within_limit : (n limit : ℕ) → nat_lt limit n ≡ false → n ≤ limit
+    within_limit n limit over = grind (arith, nat_tests)
+
 -- no value comes from none
 pub mapped_none : {X Y : Type 0} (f : X → Y) (o : Option X) → option_map f o ≡ None → o ≡ None
 mapped_none f None none = refl
@@ -70,6 +160,6 @@ known_literal plan [] i d known within = absurd (omega (arith, within))
 known_literal plan (names ∷ guard) zero d known within = not_true _ (or_false _ _ (or_false _ _ known).1).0
 known_literal plan (names ∷ guard) (suc i) d known within = known_literal plan guard i d (or_false _ _ (or_false _ _ known).1).1 (omega (arith, within))
 
-pub literal_known : (plan : Lists) (before : ℕ) (guard : List (List ℕ × List ℕ)) (i : ℕ) (d : List ℕ × List ℕ) → unknown_in plan before guard ≡ None → i < length guard → is_some (literal_named plan (get_or guard i d)) ≡ true
-literal_known plan before guard i d none within =
+pub all_known : (plan : Lists) (before : ℕ) (guard : List (List ℕ × List ℕ)) → unknown_in plan before guard ≡ None → All (λ names. IsSome (literal_named plan names)) guard
+all_known plan before guard none = λ i d within.
     known_literal plan guard i d (none_passes not (known_names plan guard) (ap is_some (mapped_none _ (position not (known_names plan guard)) none))) within

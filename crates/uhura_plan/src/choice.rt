@@ -1,8 +1,10 @@
 //! A discrete choice among named alternatives.
-ghost use Rattle.std.specs.Prelude.{◌≡◌, ◌≤◌, length, map, position, bytes_eq};
+ghost use Rattle.std.specs.Prelude.{◌≡◌, ◌≤◌, length, map, position, bytes_eq, All, IfOk, OnOk};
 ghost use Rattle.uhura_plan.specs.Find.{place_of};
+ghost use Rattle.uhura_plan.specs.Sound.{IsName};
 
 use crate::{Guard, Name};
+use std::alloc::{AllocError, Global};
 use std::marker::Model;
 
 /// The alternatives of a choice in order, each with its cost.
@@ -25,6 +27,22 @@ impl Alternatives {
         ensures { result ≡ pairs.items }
     {
         Alternatives { pairs }
+    }
+
+    /// A copy of the pairs. By their type their names are names, as a plan keeps.
+    pub(crate) fn from_slice(
+        alloc: Global,
+        pairs: &[(Name, u32)],
+    ) -> Result<Alternatives, AllocError>
+        ensures same { IfOk result (λ copy. copy ≡ pairs.now) }
+        ensures names { OnOk result (All (λ a. IsName a.0) pairs.now) }
+    {
+        let mut copy = Vec::with_capacity(alloc, pairs.len())?;
+        for (name, cost) in pairs {
+            let _ = name.bytes();
+            copy.push((*name, *cost))?;
+        }
+        Ok(Alternatives { pairs: copy })
     }
 
     /// Gives the `Vec` back.

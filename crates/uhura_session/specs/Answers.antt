@@ -1,7 +1,8 @@
 -- What is answered to a line, and the state after it.
 use Rattle.std.specs.Prelude.{◌≡◌, ℕ, ◌⊎◌, ℤ, Bool, true, false, List, [], ◌∷◌, None, Some, Option, codes}
 use Rattle.uhura_plan.specs.Lists.{empty}
-use Rattle.uhura_plan.specs.Edits.{event_refusal, with_event, requirement_refusal, AddsRequirement}
+use Rattle.uhura_plan.specs.Edits.{with_event, AddsRequirement}
+use Rattle.uhura_plan.specs.Refusals.{event_refusal, requirement_refusal}
 use Rattle.uhura_plan.specs.declared.requirement.Bounded.{Bounded}
 use Rattle.uhura_plan.specs.declared.refusal.EditRefusal.{EditRefusal}
 use Rattle.uhura_plan.specs.declared.refusal.EditRefusal.TheVariants.{Memory}

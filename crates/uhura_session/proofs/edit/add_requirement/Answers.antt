@@ -1,6 +1,7 @@
 use Rattle.std.proofs.Common.{[], true, subst, ap, refl}
 use Rattle.uhura_plan.specs.Edits as plan
-use Rattle.uhura_plan.specs.Edits.{AddsRequirement, requirement_refusal}
+use Rattle.uhura_plan.specs.Edits.{AddsRequirement}
+use Rattle.uhura_plan.specs.Refusals.{requirement_refusal}
 use Rattle.uhura_session.specs.Answers.{AnswersRequest, unpriced}
 use Rattle.uhura_session.specs.Plain.{free}
 use Rattle.uhura_session.proofs.PlainEdits.{adds_plain, refused_for_good}
