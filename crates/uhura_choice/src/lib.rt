@@ -17,3 +17,6 @@ pub use law::{branches_are_walked, children_are_prefixes, one_child_begins_a_bra
 pub use order::compare;
 pub use prefix::{Branch, Pick, Prefix};
 pub use walk::{first_branch, next_branch};
+
+#[cfg(test)]
+mod tests;
