@@ -11,7 +11,8 @@ use Rattle.uhura_plan.specs.declared.requirement.Price.{Price}
 use Rattle.uhura_plan.specs.declared.requirement.Requirement.{Requirement}
 use Rattle.uhura_plan.specs.declared.uncertain.Uncertain.{Uncertain}
 use Rattle.uhura_choice.specs.declared.prefix.Pick.{Pick}
-use Rattle.uhura_choice.specs.Branch.{holds, IsBranch, IsEarlier, picked_cost}
+use Rattle.uhura_choice.specs.Branch.{holds, IsBranch, picked_cost}
+use Rattle.uhura_choice.proofs.Earlier.{nothing-before_empty}
 use Rattle.uhura_veto.specs.declared.veto.Veto.{Veto}
 use Rattle.uhura_veto.specs.declared.room.Room.{Room}
 use Rattle.uhura_veto.specs.declared.room.Room.TheVariants.{Units, Unlimited}
@@ -112,11 +113,6 @@ schedule_free plan s plain =
     let narrow : narrowings_cost (unloosened s) 0 plan.uncertains ≡ 0 = subst (λ us. narrowings_cost (unloosened s) 0 us ≡ 0) (sym plain.uncertains) refl in
     omega (arith, picked, loosen, narrow)
 
--- no branch is earlier than the one without picks
-first_of_all : (picks : List Pick) → IsEarlier picks [] → ⊥
-first_of_all [] earlier = earlier
-first_of_all (x ∷ xs) earlier = earlier
-
 -- the earliest schedule of the constraints is the best proposal
 pub earliest_is_best : (plan : Lists) (times : List ℤ) → IsPlain plan → length times ≡ length plan.events →
     schedule.IsLeastSolution (all_constraints plan.requirements) times → IsBest (free plan) (unloosened (schedule.time_at times))
@@ -128,7 +124,7 @@ earliest_is_best plan times plain counts earliest =
         allowed = schedule_allowed plan s plain earliest.meets;
         least = λ k q allowed. rw costs (omega arith);
       };
-      first = λ k q allowed same earlier. first_of_all q.branch earlier;
+      first = λ k q allowed same earlier. nothing-before_empty q.branch earlier;
       earliest = record {
         from_zero = λ e below. earliest.nonneg e (rw counts below);
         least = λ s' from_zero meets e below.

@@ -1,3 +1,2 @@
 mod Single
 mod CappedDrive
-mod Branches
