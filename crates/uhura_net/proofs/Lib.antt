@@ -1,0 +1,4 @@
+mod Empty
+mod Rows
+mod Scaled
+mod Walks
