@@ -18,8 +18,3 @@ IsTable-empty table empty = record {
       let none : get_or table place None ≡ None = ap (λ edges. get_or edges place None) empty ∙ get_or-replicate_default 9472 place None in
       subst holds (sym none) tt;
 }
-
--- what can be no clone of nothing where something is in it is nothing
-pub none_alone : {X : Type 0} (is_clone : Option X → Type 0) → ((x : X) → is_clone (Some x) → ⊥) → (y : Option X) → is_clone y → y ≡ None
-none_alone is_clone never None clone = refl
-none_alone is_clone never (Some x) clone = absurd (never x clone)

@@ -1,3 +1,4 @@
+pub mod Clones
 mod Empty
 mod Rows
 mod Scaled

@@ -18,6 +18,10 @@ no_edge = record { from = 0; to = 0; bound = pos 0; capacity = 0 }
 abbrev pub edge_at : Edges → ℕ → Edge
 edge_at edges place = unwrap_or (edges place) no_edge
 
+-- the time of a node in a list of times, 0 past its end
+abbrev pub time_at : List ℤ → ℕ → ℤ
+time_at times node = slice_index_or times node (pos 0)
+
 -- times in k-ths keep an edge: the time of `to` is at most k times the bound after the time of `from`
 abbrev pub KeepsAt : ℕ → (ℕ → ℤ) → Edge → Type 0
 KeepsAt k times edge = (times edge.to -ℤ times edge.from) ≤ℤ (pos k *ℤ edge.bound)

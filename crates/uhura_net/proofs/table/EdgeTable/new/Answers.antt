@@ -1,4 +1,5 @@
-use Rattle.uhura_net.proofs.Empty.{IsTable-empty, none_alone}
+use Rattle.uhura_net.proofs.Clones.{none_alone}
+use Rattle.uhura_net.proofs.Empty.{IsTable-empty}
 use Rattle.uhura_net.proofs.table.EdgeTable.new.Goals as goal
 
 pub invariant_of-result : goal.invariant_of-result
