@@ -1,14 +1,14 @@
 -- The chosen edges that are there, taken place by place.
-use Rattle.std.proofs.Common.{◌≡◌, ℕ, ◌+◌, ◌<◌, ◌≤◌, Bool, false, List, length, take, set, Option, None, Some, ◌++◌, [], ◌∷◌, inl, inr, refl, sym, ap, ◌∙◌, subst, arith}
+use Rattle.std.proofs.Common.{◌≡◌, ℕ, ◌+◌, ◌<◌, ◌≤◌, List, length, take, set, None, Some, ◌++◌, [], ◌∷◌, inl, inr, sym, ap, ◌∙◌, subst, arith}
 use Rattle.std.specs.Prelude.{Contains}
 use Rattle.std.proofs.lemmas.Bool.{cases_lt}
-use Rattle.std.proofs.lemmas.List.{take_more_set, get_or_past}
+use Rattle.std.proofs.lemmas.List.{take_more_set}
 use Rattle.std.proofs.lemmas.List.Elements.{All-push, Contains-append_left, Contains-push}
 use Rattle.uhura_net.specs.declared.edge.Edge.{Edge}
 use Rattle.uhura_net.specs.Table.{IsEdgeFor}
-use Rattle.uhura_net.specs.Edges.{Edges, chosen_edges}
+use Rattle.uhura_net.specs.Edges.{Edges}
 use Rattle.uhura_cycle.specs.declared.step.Step.{Step}
-use Rattle.uhura_cycle.specs.Steps.{AreThere, AreStepsOf, AreSoundSteps}
+use Rattle.uhura_cycle.specs.Steps.{AreThere, AreSoundSteps}
 
 -- an edge with its place
 abbrev pub step_at : ℕ → Edge → Step
@@ -62,22 +62,4 @@ IsGatheredSoFar-none edges places count steps none so_far = record {
             absurd (let no : ⊥ = cc in no)
       ];
   sound = so_far.sound;
-}
-
--- no place is chosen past the end of the choice
-none_past : (table : List (Option Edge)) (chosen : List Bool) (place : ℕ) → length chosen ≤ place → chosen_edges table chosen place ≡ None
-none_past table chosen place past = rw (get_or_past chosen place false past) refl
-
--- after all places the steps are the chosen edges
-pub AreStepsOf-gathered : (table : List (Option Edge)) (chosen : List Bool) (places count : ℕ) (steps : List Step) → length chosen ≤ places →
-    IsGatheredSoFar (chosen_edges table chosen) places count steps → AreStepsOf (chosen_edges table chosen) (take count steps)
-AreStepsOf-gathered table chosen places count steps all so_far = record {
-  there = so_far.there;
-  every = λ place edge is.
-      elim (cases_lt place places) [
-        | inl inside ↦ so_far.every place edge inside is
-        | inr past ↦
-            let never : None ≡ Some edge = sym (none_past table chosen place (omega arith)) ∙ is in
-            absurd (let no : ⊥ = cc in no)
-      ];
 }

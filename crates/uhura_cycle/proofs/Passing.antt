@@ -5,7 +5,7 @@ use Rattle.std.proofs.lemmas.Bool.{cases_eq}
 use Rattle.std.proofs.lemmas.Grind.{get_or-set_at}
 use Rattle.std.proofs.lemmas.Int.{ints}
 use Rattle.std.proofs.lemmas.List.{take_all, get_or-set_same, get_or-set_other}
-use Rattle.std.proofs.lemmas.List.Elements.{All-nil, All-more, All-weaker}
+use Rattle.std.proofs.lemmas.List.Elements.{All-more, All-weaker}
 use Rattle.uhura_net.specs.Table.{IsEdgeFor}
 use Rattle.uhura_net.specs.Edges.{Edges, time_at}
 use Rattle.uhura_cycle.specs.declared.step.Step.{Step}
@@ -37,22 +37,6 @@ time_at-set times at node value inside =
       | inl same ↦ inl (get_or-set_at times at node value (pos 0) same inside)
       | inr other ↦ inr (get_or-set_other times at node value (pos 0) other)
     ]
-
--- at the start of a pass
-pub IsPassSoFar-start : (steps : List Step) (lowest : ℤ) (times : List ℤ) (backs : List (Option Step)) → HasTimesFrom lowest times →
-    ((node : ℕ) → time_at times node ≤ℤ pos 0) → IsPassSoFar steps lowest 0 times backs times backs None
-IsPassSoFar-start steps lowest times backs above most = record {
-  above = above;
-  most = most;
-  passing = λ edges passes history there before. record {
-    history = history;
-    descent = before.descent;
-    kept = before.kept;
-    kept_now = All-nil (IsKeptSince (passes + 1) times history);
-    passed = λ node. omega (arith, before.passed node);
-    last_is = All-nil (IsKept times);
-  };
-}
 
 module _ (steps : List Step) (lowest : ℤ) (taken : ℕ) (d : Step) (old_times : List ℤ) (old_backs : List (Option Step))
     (times : List ℤ) (backs : List (Option Step)) (last : Option ℕ) (more : taken < length steps) (sound : AreSoundSteps steps)

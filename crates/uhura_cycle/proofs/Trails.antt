@@ -1,15 +1,14 @@
 -- Going back node by node.
-use Rattle.std.proofs.Common.{◌≡◌, ℕ, suc, ◌+◌, ◌-◌, ◌<◌, ◌≤◌, List, ◌∷◌, length, drop, set, get_or, replicate, Option, None, Some, option_map, inl, inr, refl, sym, ap, ◌∙◌, subst, arith}
+use Rattle.std.proofs.Common.{◌≡◌, ℕ, suc, ◌+◌, ◌-◌, ◌<◌, ◌≤◌, List, ◌∷◌, length, set, get_or, Option, None, Some, option_map, inl, inr, refl, sym, ap, ◌∙◌, subst, arith}
 use Rattle.std.specs.Prelude.{slice_range}
 use Rattle.std.specs.List.{sum_by}
-use Rattle.std.proofs.lemmas.Bool.{cases_eq, cases_lt}
-use Rattle.std.proofs.lemmas.List.{get_or-set_same, get_or-set_other, length-take, drop-set, get_or-replicate, get_or_past, length-replicate}
-use Rattle.std.proofs.lemmas.List.Folds.{sum_by-replicate}
+use Rattle.std.proofs.lemmas.Bool.{cases_eq}
+use Rattle.std.proofs.lemmas.List.{get_or-set_same, get_or-set_other, drop-set}
 use Rattle.std.proofs.lemmas.List.Sums.{sum_by-set, get_or-le-sum_by}
 use Rattle.uhura_net.specs.declared.place.Place.{Place}
 use Rattle.uhura_cycle.specs.declared.step.Step.{Step}
 use Rattle.uhura_cycle.specs.Descent.{back_of}
-use Rattle.uhura_cycle.specs.Trail.{IsTrail, IsFromRest, IsLoop, IsTrace}
+use Rattle.uhura_cycle.specs.Trail.{IsTrail, IsLoop, IsTrace}
 
 -- where a trace came by a node
 abbrev visit_of : List (Option ℕ) → ℕ → Option ℕ
@@ -27,26 +26,6 @@ pub record IsTracing (backs : List (Option Step)) (start taken : ℕ) (visits : 
       (1024 - taken < end) × (end ≤ 1024) × IsTrail backs node (slice_range walk (1024 - taken) end) other
   pub whole : IsTrail backs node (slice_range walk (1024 - taken) 1024) start
   pub left : sum_by unvisited visits + taken ≡ 1024
-
--- nothing is visited at first
-none_visited : (n node : ℕ) → visit_of (replicate n None) node ≡ None
-none_visited n node =
-    let nothing : Option ℕ = None in
-    elim (cases_lt node n) [
-      | inl inside ↦ get_or-replicate n node nothing nothing inside
-      | inr past ↦ get_or_past (replicate n nothing) node nothing (omega (arith, length-replicate n nothing))
-    ]
-
-pub IsTracing-start : (backs : List (Option Step)) (start : ℕ) (visits : List (Option ℕ)) (walk : List Place) → start < 1024 →
-    visits ≡ replicate 1024 None → IsTracing backs start 0 visits walk start
-IsTracing-start backs start visits walk inside none = record {
-  inside = inside;
-  visited = λ other end is.
-      let never : None ≡ Some end = sym (none_visited 1024 other) ∙ (ap (λ (xs : List (Option ℕ)). visit_of xs other) (sym none) ∙ is) in
-      absurd (let no : ⊥ = cc in no);
-  whole = refl;
-  left = omega (arith, ap (sum_by unvisited) none, sum_by-replicate unvisited 1024 None);
-}
 
 -- one more place in front of a part of the walk
 part_more : (walk : List Place) (at end : ℕ) (place : Place) → 0 < at → at ≤ end → at ≤ length walk →
@@ -113,17 +92,6 @@ pub IsLoop-visited : (backs : List (Option Step)) (start taken : ℕ) (visits : 
 IsLoop-visited backs start taken visits walk node end so_far is =
     let found = so_far.visited node end is in
     record { some = found.0; most = found.1; node = node; trail = found.2 }
-
--- one that no step lowered ends it
-pub IsFromRest-ended : (backs : List (Option Step)) (start taken : ℕ) (visits : List (Option ℕ)) (walk : List Place) (node : ℕ) → taken < 1024 →
-    IsTracing backs start taken visits walk node → back_of backs node ≡ None → IsFromRest backs start
-IsFromRest-ended backs start taken visits walk node more so_far rests = record {
-  node = node;
-  places = slice_range walk (1024 - taken) 1024;
-  few = omega (arith, length-take (1024 - (1024 - taken)) (drop (1024 - taken) walk));
-  rests = rests;
-  trail = so_far.whole;
-}
 
 -- after as many steps as there are nodes the trace came by the node
 pub IsTrace-done : (backs : List (Option Step)) (start taken : ℕ) (visits : List (Option ℕ)) (walk : List Place) (node : ℕ) (visit : Option ℕ) → 1024 ≤ taken →
