@@ -1,0 +1,5 @@
+pub mod Clones
+mod Empty
+mod Rows
+mod Scaled
+mod Walks

@@ -1,0 +1,4 @@
+pub mod Place
+pub mod Table
+pub mod Edges
+pub mod Walk
