@@ -1,9 +1,9 @@
 pub mod Building
 pub mod Choices
-pub mod Entries
 pub mod Events
 pub mod Finds
 pub mod Guards
+pub mod Insertions
 pub mod Literals
 pub mod Names
 pub mod Positions
