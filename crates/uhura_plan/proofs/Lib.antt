@@ -9,6 +9,10 @@ pub mod Events
 pub mod Finds
 pub mod Guards
 pub mod Kept
+pub mod Events
+pub mod Finds
+pub mod Guards
+pub mod Insertions
 pub mod Literals
 pub mod Names
 pub mod Positions
@@ -18,4 +22,3 @@ pub mod Repeats
 pub mod Requirements
 pub mod Slots
 pub mod Uncertains
-pub mod Inserting

@@ -1,8 +1,10 @@
 //! The edits and the look-ups on one small plan, and the limits.
 ghost use Rattle.uhura_plan.specs.Limits.{AreWithinLimits};
 
+mod added;
+
 use super::*;
-use crate::EventRef;
+use crate::{Bounded, EditRefusal, EventRef};
 use std::process::Abort;
 use std::test::Fail;
 
