@@ -2,7 +2,7 @@
 ghost use Rattle.uhura_plan.specs.Limits.{AreWithinLimits};
 
 use super::*;
-use crate::EventRef;
+use crate::{Bounded, EditRefusal, EventRef, Price, Side};
 use std::process::Abort;
 use std::test::Fail;
 
@@ -112,6 +112,65 @@ fn keeps_a_requirement(rt: HostRuntime) -> Result<(), Fail> {
         0,
     );
     assert!(rt; parts(found) == stated);
+    Ok(())
+}
+
+// What the upper side of a requirement is changed to.
+fn changed_upper() -> Bounded
+    ensures { AreWithinLimits result }
+{
+    let (rate, most) = (3, Some(4));
+    Bounded {
+        bound: Some(9),
+        price: Some(Price { rate, most }),
+    }
+}
+
+fn change_upper(plan: &mut Plan, name: Name, to: Bounded) -> Result<(), EditRefusal>
+    requires { AreWithinLimits to }
+{
+    plan.set_bound(name, Side::Upper, to.bound)?;
+    plan.set_price(name, Side::Upper, to.price)
+}
+
+fn change_duration(plan: &mut Plan, name: Name) -> Result<(), EditRefusal> {
+    plan.set_rate(name, Side::Lower, Some(2))?;
+    plan.set_range(name, 10, 20)
+}
+
+// Drops a requirement, and gives a copy of the plan before.
+fn drop_from(plan: &mut Plan, name: Name) -> Result<Plan, EditRefusal> {
+    let before = plan.copy()?;
+    plan.drop_requirement(name)?;
+    Ok(before)
+}
+
+// The name, the slot and the upper side of the first requirement.
+fn first(plan: &Plan) -> Option<(Name, u32, Bounded)> {
+    let first = plan.requirement(0)?;
+    Some((first.name, first.slot, first.upper))
+}
+
+#[test]
+fn changes_a_requirement_and_drops_it(rt: HostRuntime) -> Result<(), Fail> {
+    let mut plan = two_events(&rt, rt.alloc())?;
+    let r = name(&rt, "r");
+    change_upper(&mut plan, r, changed_upper())?;
+    let before = drop_from(&mut plan, r)?;
+    assert!(rt; first(&plan).is_none());
+    assert!(rt; first(&before) == Some((r, 0, changed_upper())));
+    Ok(())
+}
+
+#[test]
+fn changes_nothing_that_is_not_there(rt: HostRuntime) -> Result<(), Fail> {
+    let mut plan = Plan::new(rt.alloc())?;
+    let x = name(&rt, "x");
+    let unknown = Err(EditRefusal::Unknown { which: 0 });
+    assert_eq!(rt; change_upper(&mut plan, x, changed_upper()), unknown);
+    assert_eq!(rt; change_duration(&mut plan, x), unknown);
+    assert_eq!(rt; plan.set_preference(x, x, 5), unknown);
+    assert_eq!(rt; plan.drop_requirement(x), unknown);
     Ok(())
 }
 
