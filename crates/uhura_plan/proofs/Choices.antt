@@ -21,7 +21,7 @@ use Rattle.uhura_plan.specs.Tables.{lists_of, HoldsPlan}
 use Rattle.uhura_plan.specs.Edits.{with_choice}
 use Rattle.uhura_plan.specs.Refusals.{choice_refusal}
 use Rattle.uhura_plan.proofs.Positions.{none_passes}
-use Rattle.uhura_plan.proofs.Inserting.{values_added, keys_added}
+use Rattle.uhura_plan.proofs.Insertions.{values_added, keys_added}
 use Rattle.uhura_plan.proofs.Products.{product-push}
 use Rattle.uhura_plan.proofs.Repeats.{AreDistinct-once}
 use Rattle.uhura_plan.proofs.Building.{choice_within}

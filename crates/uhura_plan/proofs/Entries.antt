@@ -33,7 +33,7 @@ none_equal : (name : List ℕ) (names : List (List ℕ)) → AllByRecursion (λ 
 none_equal name [] differ = refl
 none_equal name (other ∷ names) differ = rw differ.0 (none_equal name names differ.1)
 
--- where the first that passes stands at the head, or behind a head that fails
+-- what passes at a place, where those before it fail, is the first that passes
 first_at : {X : Type 0} (p : X → Bool) (xs : List X) (place : ℕ) → place < length xs → ((d : X) → p (get_or xs place d) ≡ true) → ((before : ℕ) (d : X) → before < place → p (get_or xs before d) ≡ false) → slice_get xs place ≡ find p xs
 first_at p [] place within passes fails = absurd (omega (arith, within))
 first_at p (x ∷ xs) zero within passes fails = rw (passes x) refl

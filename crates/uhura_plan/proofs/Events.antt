@@ -17,7 +17,7 @@ use Rattle.uhura_plan.specs.Find.{find_event, place_of}
 use Rattle.uhura_plan.specs.Sound.{IsName, IsEventAmong, HasDistinctNames, IsSoundUncertain, IsSoundRequirement, IsSound}
 use Rattle.uhura_plan.specs.Edits.{with_event}
 use Rattle.uhura_plan.proofs.Positions.{none_passes, not_contained}
-use Rattle.uhura_plan.proofs.Inserting.{insert_key-new}
+use Rattle.uhura_plan.proofs.Insertions.{insert_key-new}
 
 -- an event stays an event where there are more of them
 pub more_events : (fewer more uncertains : ℕ) (event : EventRef) → fewer ≤ more → IsEventAmong fewer uncertains event → IsEventAmong more uncertains event

@@ -1,13 +1,14 @@
 pub mod Building
-pub mod Choices
 pub mod ChangedChoice
 pub mod ChangedRequirement
 pub mod ChangedUncertain
+pub mod Choices
 pub mod Costs
 pub mod Entries
 pub mod Events
 pub mod Finds
 pub mod Guards
+pub mod Insertions
 pub mod Kept
 pub mod Literals
 pub mod Names
@@ -18,4 +19,3 @@ pub mod Repeats
 pub mod Requirements
 pub mod Slots
 pub mod Uncertains
-pub mod Inserting

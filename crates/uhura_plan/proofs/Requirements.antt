@@ -3,7 +3,6 @@ use Rattle.std.proofs.Common.{◌≡◌, ◌≢◌, ℕ, ◌<◌, false, List, [
 use Rattle.std.specs.Map.{values_of}
 use Rattle.std.specs.Cmp.Lexicographic.{nat_list_eq_equiv}
 use Rattle.indexmap.specs.IndexMap.{insert_entry}
-use Rattle.std.proofs.lemmas.Bool.Decides.{nat_tests}
 use Rattle.std.proofs.lemmas.List.{length_push, map_push}
 use Rattle.std.proofs.lemmas.List.Elements.{All-push, All-weaker, Contains-get_or}
 use Rattle.std.proofs.lemmas.List.Quantifiers.{all_pairs_push}
@@ -21,9 +20,9 @@ use Rattle.uhura_plan.specs.Tables.{lists_of, HoldsPlan}
 use Rattle.uhura_plan.specs.Edits.{IsRequirementOf, with_requirement}
 use Rattle.uhura_plan.specs.Refusals.{requirement_refusal}
 use Rattle.uhura_plan.proofs.Positions.{none_passes}
-use Rattle.uhura_plan.proofs.Inserting.{values_added, keys_added}
+use Rattle.uhura_plan.proofs.Insertions.{values_added, keys_added}
 use Rattle.uhura_plan.proofs.Finds.{event_among, same_event}
-use Rattle.uhura_plan.proofs.Refusals.{unrefused, bounds_ordered}
+use Rattle.uhura_plan.proofs.Refusals.{unrefused_requirement}
 
 -- bounds stay in order where they are named anew
 ordered_along : (lower upper lower' upper' : Bounded) → lower' ≡ lower → upper' ≡ upper → AreOrdered lower.bound upper.bound → AreOrdered lower'.bound upper'.bound
@@ -36,7 +35,7 @@ module _ (plan : Lists) (name from to : List ℕ) (lower upper : Bounded) (guard
   HasDistinctNames-with_requirement : HasDistinctNames (with_requirement plan made)
   HasDistinctNames-with_requirement =
       let free : is_some (requirement_named plan made.name) ≡ false =
-      ap (λ n. is_some (requirement_named plan n)) stated.same_name ∙ (unrefused plan name from to lower upper guard none).not_taken in
+      ap (λ n. is_some (requirement_named plan n)) stated.same_name ∙ (unrefused_requirement plan name from to lower upper guard none).name_free in
       record {
         events = sound.distinct.events;
         ends = sound.distinct.ends;
@@ -80,18 +79,18 @@ module _ (plan : Lists) (name from to : List ℕ) (lower upper : Bounded) (guard
       two_events = λ same.
           true≢false
           (sym ((bytes_eq-Decides from to).1 (same_event plan from to made.from stated.found_from (ap (λ e. Some e) same ∙ stated.found_to)))
-          ∙ (unrefused plan name from to lower upper guard none).two_events);
+          ∙ (unrefused_requirement plan name from to lower upper guard none).two_events);
       lower = subst AreWithinLimits (sym stated.same_lower) within_lower;
       upper = subst AreWithinLimits (sym stated.same_upper) within_upper;
       ordered = ordered_along lower upper made.lower made.upper stated.same_lower stated.same_upper
-          (bounds_ordered lower.bound upper.bound (unrefused plan name from to lower upper guard none).not_empty);
+          (unrefused_requirement plan name from to lower upper guard none).ordered;
       guard = among;
     }
 
     -- the plan stays sound
     pub IsSound-with_requirement : IsSound (with_requirement plan made)
     IsSound-with_requirement =
-        let room : length plan.requirements < 2048 = let full = (unrefused plan name from to lower upper guard none).room in grind (arith, nat_tests) in
+        let room = (unrefused_requirement plan name from to lower upper guard none).room in
         record {
           counts = record {
             events = sound.counts.events;
@@ -115,7 +114,7 @@ module _ (events : List (List ℕ)) (uncertains : List (List ℕ × Uncertain)) 
     (none : requirement_refusal plan name from to lower upper guard ≡ None) (stated : IsRequirementOf plan name from to lower upper guard made) where
   -- the name is no requirement's in the tables
   free : is_some (place_of (requirement_names (values_of entries)) name) ≡ false
-  free = ap (λ p. is_some (requirement_named p name)) view ∙ (unrefused plan name from to lower upper guard none).not_taken
+  free = ap (λ p. is_some (requirement_named p name)) view ∙ (unrefused_requirement plan name from to lower upper guard none).name_free
 
   -- the requirement goes behind the others
   requirements_added : values_of inserted ≡ values_of entries ++ made ∷ []

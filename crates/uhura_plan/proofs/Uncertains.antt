@@ -20,7 +20,7 @@ use Rattle.uhura_plan.specs.Tables.{lists_of, HoldsPlan}
 use Rattle.uhura_plan.specs.Edits.{with_uncertain}
 use Rattle.uhura_plan.specs.Refusals.{uncertain_refusal}
 use Rattle.uhura_plan.proofs.Positions.{none_passes, not_contained}
-use Rattle.uhura_plan.proofs.Inserting.{insert_key-new, values_added, keys_added}
+use Rattle.uhura_plan.proofs.Insertions.{insert_key-new, values_added, keys_added}
 use Rattle.uhura_plan.proofs.Events.{IsNoEvent, no_event}
 use Rattle.uhura_plan.proofs.Finds.{event_among}
 use Rattle.uhura_plan.proofs.Refusals.{IsUnrefusedUncertain, unrefused_uncertain}

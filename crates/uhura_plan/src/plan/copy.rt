@@ -2,7 +2,7 @@
 ghost use Rattle.std.specs.Prelude.{◌≡◌, IfOk};
 
 use super::Plan;
-use crate::{Choice, Name, Requirement, Uncertain};
+use crate::Name;
 use indexmap::{IndexMap, IndexSet};
 use std::alloc::AllocError;
 
@@ -14,9 +14,9 @@ impl Plan {
         Ok(Plan {
             events: copy_of_names(&self.events)?,
             ends: copy_of_names(&self.ends)?,
-            uncertains: copy_of_uncertains(&self.uncertains)?,
-            choices: copy_of_choices(&self.choices)?,
-            requirements: copy_of_requirements(&self.requirements)?,
+            uncertains: copy_of_table(&self.uncertains)?,
+            choices: copy_of_table(&self.choices)?,
+            requirements: copy_of_table(&self.requirements)?,
         })
     }
 }
@@ -27,24 +27,10 @@ fn copy_of_names(names: &IndexSet<Name>) -> Result<IndexSet<Name>, AllocError>
     names.clone()
 }
 
-fn copy_of_uncertains(
-    uncertains: &IndexMap<Name, Uncertain>,
-) -> Result<IndexMap<Name, Uncertain>, AllocError>
-    ensures { IfOk result (λ copy. copy.entries ≡ uncertains.now.entries) }
+// A copy of a table whose items are equal to their own copies.
+fn copy_of_table<V: Clone>(table: &IndexMap<Name, V>) -> Result<IndexMap<Name, V>, AllocError>
+    requires { (item copy : V) → V.is_clone item copy → copy ≡ item }
+    ensures { IfOk result (λ copy. copy.entries ≡ table.now.entries) }
 {
-    uncertains.clone()
-}
-
-fn copy_of_choices(choices: &IndexMap<Name, Choice>) -> Result<IndexMap<Name, Choice>, AllocError>
-    ensures { IfOk result (λ copy. copy.entries ≡ choices.now.entries) }
-{
-    choices.clone()
-}
-
-fn copy_of_requirements(
-    requirements: &IndexMap<Name, Requirement>,
-) -> Result<IndexMap<Name, Requirement>, AllocError>
-    ensures { IfOk result (λ copy. copy.entries ≡ requirements.now.entries) }
-{
-    requirements.clone()
+    table.clone()
 }
