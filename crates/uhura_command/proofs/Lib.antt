@@ -23,3 +23,4 @@ pub mod ChoiceLemmas
 pub mod RequireLemmas
 pub mod PartLemmas
 pub mod LineLemmas
+pub mod ParsedBackLemmas

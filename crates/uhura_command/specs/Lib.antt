@@ -7,3 +7,4 @@ pub mod Tails
 pub mod Pairs
 pub mod Verbs
 pub mod Costed
+pub mod ParsedBack
