@@ -46,3 +46,4 @@ pub mod Accepting
 pub mod Numbering
 pub mod Products
 pub mod Applying
+pub mod ParsedBackLemmas

@@ -11,3 +11,4 @@ pub mod Tails
 pub mod Pairs
 pub mod Costed
 pub mod Written
+pub mod ParsedBack

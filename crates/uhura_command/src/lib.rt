@@ -1,4 +1,4 @@
-//! The line language: the commands, and how each is written.
+//! The line language: the commands, what a line is parsed to, and how each command is written.
 #![tactic(auto)]
 
 mod command;
