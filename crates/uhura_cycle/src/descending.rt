@@ -44,5 +44,6 @@ pub(crate) fn descend(
             return Some(part);
         }
     }
+    // Not reached: after as many passes as there are nodes, the steps lead back to where they begin.
     None
 }
