@@ -1,5 +1,5 @@
 -- The numbers of a command that a line can give are within the limits of a plan.
-use Rattle.std.proofs.Common.{◌≡◌, ◌≢◌, ℕ, ℤ, pos, negsuc, ◌≤ℤ◌, Bool, true, false, ◌&&◌, ◌||◌, List, [], ◌∷◌, length, ◌≤◌, Option, Some, None, option_map, IfSome, All, int_le, bytes_eq, codes, refl, sym, ap, subst, ◌∙◌, arith}
+use Rattle.std.proofs.Common.{◌≡◌, ℕ, ℤ, pos, negsuc, Bool, true, false, ◌&&◌, ◌||◌, List, [], ◌∷◌, Option, Some, None, option_map, IfSome, All, int_le, bytes_eq, codes, refl, sym, ap, subst, ◌∙◌, arith}
 use Rattle.std.specs.List.{list_all}
 use Rattle.std.specs.Option.{option_map_or}
 use Rattle.std.proofs.lemmas.Int.{ints}
@@ -7,7 +7,7 @@ use Rattle.std.proofs.lemmas.List.Elements.{All-nil, All-cons}
 use mir.Val.{to_z, of_z}
 use mir.Syntax.{w64}
 use Rattle.uhura_plan.specs.declared.key.Side.{Side}
-use Rattle.uhura_text.specs.Number.{number_of, spelling}
+use Rattle.uhura_text.specs.Number.{spelling}
 use Rattle.uhura_plan.specs.declared.requirement.Price.{Price}
 use Rattle.uhura_plan.specs.declared.requirement.Bounded.{Bounded}
 use Rattle.uhura_plan.specs.Limits.{IsBound, IsRangeEnd, IsRate, IsAmount, IsPrice, AreWithinLimits}

@@ -1,5 +1,5 @@
 -- What a command that edits makes of a state, or why it is refused.
-use Rattle.std.specs.Prelude.{◌≡◌, ℕ, ℤ, List, Option, Some, None, option_map, Result, Ok, Err, alloc_error, ⊤}
+use Rattle.std.specs.Prelude.{◌≡◌, Option, Some, None, option_map, Result, Ok, Err, alloc_error, ⊤}
 use Rattle.uhura_plan.specs.declared.refusal.EditRefusal.{EditRefusal}
 use Rattle.uhura_plan.specs.declared.refusal.EditRefusal.TheVariants as edit
 use Rattle.uhura_plan.specs.Lists.{Lists}

@@ -39,6 +39,7 @@ pub fn no_line_has_two_causes()
 pub fn no_written_command_is_lost()
     ensures parsed { (line : List ℕ) (c : Command) (result : Result (Option Command) LineRefusal) → IsCommand c → ReadsAs line (words_of (form_of c)) → length line ≤ 4096 → Parses line result → IsGiven c result }
     ensures short { (line : List ℕ) (c : Command) → Parses line (Ok (Some c)) → length (line_of (words_of (form_of c))) ≤ length line + 1 }
+{}
 
 /// The commands of a plan make it, one after the other from nothing, up to the slots of its requirements; so does its
 /// canonical script, read line by line.

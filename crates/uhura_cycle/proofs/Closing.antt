@@ -5,6 +5,7 @@ use Rattle.std.specs.List.{All}
 use Rattle.std.proofs.lemmas.Int.{ints, by_lt_z}
 use Rattle.std.proofs.lemmas.List.{length-take, length-drop, get_or_default}
 use Rattle.std.proofs.lemmas.List.Elements.{All-nil, All-cons, All-head, All-tail}
+use Rattle.uhura_net.specs.declared.edge.TheConstants.{NODES}
 use Rattle.uhura_net.specs.declared.edge.Edge.{Edge}
 use Rattle.uhura_net.specs.declared.place.Place.{Place}
 use Rattle.uhura_net.specs.Edges.{Edges, no_edge, edge_at, time_at}
@@ -109,30 +110,30 @@ module _ (edges : Edges) (times : List ℤ) (backs : List (Option Step)) (histor
             absurd (omega (arith, first.since near, rest.since far)));
       }
 
-  pub IsNegativeWalk-loop : (walk : List Place) (from to : ℕ) → length walk ≡ 1024 → IsLoop backs walk from to → IsNegativeWalk edges (slice_range walk from to)
+  pub IsNegativeWalk-loop : (walk : List Place) (from to : ℕ) → length walk ≡ NODES → IsLoop backs walk from to → IsNegativeWalk edges (slice_range walk from to)
   IsNegativeWalk-loop walk from to room loop =
       closed loop.node (slice_range walk from to)
       (omega (arith, length-take (to - from) (drop from walk), length-drop from walk, loop.some, loop.most)) loop.trail
 
   -- from a node at rest less than as many passes as nodes can have come, and the time can't have fallen further
-  pub passes_from_rest : (node : ℕ) → IsFromRest backs node → history.pass node < 1024
+  pub passes_from_rest : (node : ℕ) → IsFromRest backs node → history.pass node < NODES
   passes_from_rest node rest =
       let below : IsFall edges times history rest.node rest.places node = fall rest.node rest.places node rest.trail in
       omega (arith, below.pass, (descent.resting rest.node rest.rests).1, rest.few)
 
-  pub time_from_rest : (most node : ℕ) → HasBoundsFrom most edges → IsFromRest backs node → neg_ℤ (pos (1024 * most)) ≤ℤ time_at times node
+  pub time_from_rest : (most node : ℕ) → HasBoundsFrom most edges → IsFromRest backs node → neg_ℤ (pos (NODES * most)) ≤ℤ time_at times node
   time_from_rest most node bounds rest =
       let below : IsFall edges times history rest.node rest.places node = fall rest.node rest.places node rest.trail in
       let sum = bounds_least most edges rest.places bounds below.there in
-      let longest : length rest.places * most ≤ 1024 * most = grind (arith, rest.few) in
+      let longest : length rest.places * most ≤ NODES * most = grind (arith, rest.few) in
       omega (arith, ints, below.above, (descent.resting rest.node rest.rests).0, sum, longest)
 
   -- the steps that lowered nodes begin at nodes
   pub AreSoundBacks-descent : AreSoundBacks backs
   AreSoundBacks-descent k d inside =
-      let holds : Option Step → Type 0 = λ back. IfSome back (λ step. step.edge.from < 1024) in
+      let holds : Option Step → Type 0 = λ back. IfSome back (λ step. step.edge.from < NODES) in
       subst holds (get_or_default backs k None d inside) (sound (back_of backs k) (descent.lowered k))
     where
-      sound : (back : Option Step) → ((step : Step) → back ≡ Some step → IsLowered edges times history k step) → IfSome back (λ step. step.edge.from < 1024)
+      sound : (back : Option Step) → ((step : Step) → back ≡ Some step → IsLowered edges times history k step) → IfSome back (λ step. step.edge.from < NODES)
       sound None lowered = tt
       sound (Some step) lowered = (lowered step refl).inside

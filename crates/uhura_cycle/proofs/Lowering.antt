@@ -3,6 +3,7 @@ use Rattle.std.proofs.Common.{◌≡◌, ◌≢◌, ℕ, ◌+◌, ◌<◌, ◌�
 use Rattle.std.proofs.lemmas.Bool.{cases_eq, eq-eqb, ne_eqb}
 use Rattle.std.proofs.lemmas.Int.{ints}
 use Rattle.std.proofs.lemmas.List.{get_or-set_same, get_or-set_other}
+use Rattle.uhura_net.specs.declared.edge.TheConstants.{NODES}
 use Rattle.uhura_net.specs.Edges.{Edges, time_at}
 use Rattle.uhura_cycle.specs.declared.step.Step.{Step}
 use Rattle.uhura_cycle.specs.Steps.{allowed_by, IsKept}
@@ -29,7 +30,7 @@ lowered_in pass node history = record {
 -- a step that wants its end lowered, in a pass that none of the nodes is past
 module _ (edges : Edges) (times : List ℤ) (backs : List (Option Step)) (history : History) (step : Step) (pass : ℕ)
     (in_times : step.edge.to < length times) (in_backs : step.edge.to < length backs)
-    (there : edges step.place.0 ≡ Some step.edge) (inside : step.edge.from < 1024) (apart : step.edge.from ≢ step.edge.to)
+    (there : edges step.place.0 ≡ Some step.edge) (inside : step.edge.from < NODES) (apart : step.edge.from ≢ step.edge.to)
     (less : allowed_by step times <ℤ time_at times step.edge.to)
     (ready : pass ≤ history.pass step.edge.from + 1) (passed : (node : ℕ) → history.pass node ≤ pass)
     (descent : IsDescent edges times backs history) where

@@ -6,6 +6,7 @@ use Rattle.std.proofs.lemmas.Grind.{get_or-set_at}
 use Rattle.std.proofs.lemmas.Int.{ints}
 use Rattle.std.proofs.lemmas.List.{take_all, get_or-set_same, get_or-set_other}
 use Rattle.std.proofs.lemmas.List.Elements.{All-more, All-weaker}
+use Rattle.uhura_net.specs.declared.edge.TheConstants.{NODES}
 use Rattle.uhura_net.specs.Table.{IsEdgeFor}
 use Rattle.uhura_net.specs.Edges.{Edges, time_at}
 use Rattle.uhura_cycle.specs.declared.step.Step.{Step}
@@ -20,7 +21,7 @@ pub record IsPassing (edges : Edges) (steps : List Step) (passes taken : ℕ) (t
   pub kept : All (IsKeptSince passes times history) steps
   pub kept_now : All (IsKeptSince (passes + 1) times history) (take taken steps)
   pub passed : (node : ℕ) → history.pass node ≤ passes + 1
-  pub last_is : MatchOption last (All (IsKept times) (take taken steps)) (λ node. (node < 1024) × (history.pass node ≡ passes + 1))
+  pub last_is : MatchOption last (All (IsKept times) (take taken steps)) (λ node. (node < NODES) × (history.pass node ≡ passes + 1))
 
 -- what stands of the times alone, and of a descent
 pub record IsPassSoFar (steps : List Step) (lowest : ℤ) (taken : ℕ) (old_times : List ℤ) (old_backs : List (Option Step)) (times : List ℤ) (backs : List (Option Step)) (last : Option ℕ) : Type 0 where
@@ -40,7 +41,7 @@ time_at-set times at node value inside =
 
 module _ (steps : List Step) (lowest : ℤ) (taken : ℕ) (d : Step) (old_times : List ℤ) (old_backs : List (Option Step))
     (times : List ℤ) (backs : List (Option Step)) (last : Option ℕ) (more : taken < length steps) (sound : AreSoundSteps steps)
-    (in_times : length times ≡ 1024) (in_backs : length backs ≡ 1024)
+    (in_times : length times ≡ NODES) (in_backs : length backs ≡ NODES)
     (so_far : IsPassSoFar steps lowest taken old_times old_backs times backs last) where
   abbrev step : Step
   step = slice_index_or steps taken d
@@ -109,8 +110,8 @@ module _ (steps : List Step) (lowest : ℤ) (taken : ℕ) (d : Step) (old_times 
 
   -- one that is kept
   last-kept : (history : History) (passes : ℕ) (other : Option ℕ) → IsKept times step →
-      MatchOption other (All (IsKept times) (take taken steps)) (λ node. (node < 1024) × (history.pass node ≡ passes + 1)) →
-      MatchOption other (All (IsKept times) (take (taken + 1) steps)) (λ node. (node < 1024) × (history.pass node ≡ passes + 1))
+      MatchOption other (All (IsKept times) (take taken steps)) (λ node. (node < NODES) × (history.pass node ≡ passes + 1)) →
+      MatchOption other (All (IsKept times) (take (taken + 1) steps)) (λ node. (node < NODES) × (history.pass node ≡ passes + 1))
   last-kept history passes None kept all = All-more (IsKept times) steps taken d more all kept
   last-kept history passes (Some node) kept lowered = lowered
 

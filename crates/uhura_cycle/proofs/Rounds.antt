@@ -7,6 +7,7 @@ use Rattle.std.proofs.lemmas.Int.{ints}
 use Rattle.std.proofs.lemmas.List.{get_or-replicate, get_or_past, length-replicate}
 use Rattle.std.proofs.lemmas.List.Elements.{All-contains}
 use borrow.Author.Differences.{down}
+use Rattle.uhura_net.specs.declared.edge.TheConstants.{NODES}
 use Rattle.uhura_net.specs.Edges.{Edges, time_at}
 use Rattle.uhura_cycle.specs.declared.step.Step.{Step}
 use Rattle.uhura_cycle.specs.Verdict.{HasBoundsFrom, AreGreatestTimes}
@@ -20,7 +21,7 @@ use Rattle.uhura_cycle.proofs.Gathered.{step_at}
 pub record IsReady (edges : Edges) (steps : List Step) (passes : ℕ) (lowest : ℤ) (times : List ℤ) (backs : List (Option Step)) : Type 0 where
   pub history : History
   pub after : IsAfterPasses edges steps passes lowest times backs history
-  pub few : passes < 1024
+  pub few : passes < NODES
 
 -- copies of the default are the default everywhere
 get_or-replicate_default : {X : Type 0} (n i : ℕ) (x : X) → get_or (replicate n x) i x ≡ x
@@ -76,16 +77,16 @@ bounds_of_steps edges steps most are bounds k d inside = bounds (get_or steps k 
 
 -- the lowest time that the program computes
 pub lowest_is : (least : ℤ) → negsuc 19999999999999 ≤ℤ least → least ≤ℤ pos 0 →
-    to_z w64 (of_z w64 (pos 1024 *ℤ to_z w64 (of_z w64 least))) ≡ neg_ℤ (pos (1024 * down least))
+    to_z w64 (of_z w64 (pos NODES *ℤ to_z w64 (of_z w64 least))) ≡ neg_ℤ (pos (NODES * down least))
 lowest_is least low high =
     let same : to_z w64 (of_z w64 least) ≡ least = omega (arith, ints) in
     rw same (from_zero least low high)
   where
-    from_zero : (z : ℤ) → negsuc 19999999999999 ≤ℤ z → z ≤ℤ pos 0 → to_z w64 (of_z w64 (pos 1024 *ℤ z)) ≡ neg_ℤ (pos (1024 * down z))
+    from_zero : (z : ℤ) → negsuc 19999999999999 ≤ℤ z → z ≤ℤ pos 0 → to_z w64 (of_z w64 (pos NODES *ℤ z)) ≡ neg_ℤ (pos (NODES * down z))
     from_zero (pos n) low high = omega (arith, ints)
     from_zero (negsuc n) low high = omega (arith, ints)
 
-module _ (edges : Edges) (steps : List Step) (least lowest : ℤ) (low : least ≤ℤ pos 0) (lowest_is : lowest ≡ neg_ℤ (pos (1024 * down least)))
+module _ (edges : Edges) (steps : List Step) (least lowest : ℤ) (low : least ≤ℤ pos 0) (lowest_is : lowest ≡ neg_ℤ (pos (NODES * down least)))
     (are : AreStepsOf edges steps) where
   -- one more pass that didn't close a walk
   pub IsReady-more : (passes : ℕ) (times : List ℤ) (backs : List (Option Step)) (node : ℕ) → All (λ step. least ≤ℤ step.edge.bound) steps →
@@ -104,7 +105,7 @@ module _ (edges : Edges) (steps : List Step) (least lowest : ℤ) (low : least �
       ]
 
   -- at rest the times are the greatest
-  pub AreGreatestTimes-rest : (times : List ℤ) (backs : List (Option Step)) → length times ≡ 1024 →
+  pub AreGreatestTimes-rest : (times : List ℤ) (backs : List (Option Step)) → length times ≡ NODES →
       ((most : ℕ) → All (λ step. neg_ℤ (pos most) ≤ℤ step.edge.bound) steps → neg_ℤ (pos most) ≤ℤ least) →
       IsAtRest edges steps lowest times backs → AreGreatestTimes edges times
   AreGreatestTimes-rest times backs nodes reached rest = record {

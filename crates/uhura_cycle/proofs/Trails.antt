@@ -5,6 +5,7 @@ use Rattle.std.specs.List.{sum_by}
 use Rattle.std.proofs.lemmas.Bool.{cases_eq}
 use Rattle.std.proofs.lemmas.List.{get_or-set_same, get_or-set_other, drop-set}
 use Rattle.std.proofs.lemmas.List.Sums.{sum_by-set, get_or-le-sum_by}
+use Rattle.uhura_net.specs.declared.edge.TheConstants.{NODES}
 use Rattle.uhura_net.specs.declared.place.Place.{Place}
 use Rattle.uhura_cycle.specs.declared.step.Step.{Step}
 use Rattle.uhura_cycle.specs.Descent.{back_of}
@@ -21,11 +22,11 @@ unvisited (Some at) = 0
 
 -- The trace stands at a node and at a place of the walk: from there the walk leads to each node that it came by.
 pub record IsTracing (backs : List (Option Step)) (start taken : ℕ) (visits : List (Option ℕ)) (walk : List Place) (node : ℕ) : Type 0 where
-  pub inside : node < 1024
+  pub inside : node < NODES
   pub visited : (other end : ℕ) → visit_of visits other ≡ Some end →
-      (1024 - taken < end) × (end ≤ 1024) × IsTrail backs node (slice_range walk (1024 - taken) end) other
-  pub whole : IsTrail backs node (slice_range walk (1024 - taken) 1024) start
-  pub left : sum_by unvisited visits + taken ≡ 1024
+      (NODES - taken < end) × (end ≤ NODES) × IsTrail backs node (slice_range walk (NODES - taken) end) other
+  pub whole : IsTrail backs node (slice_range walk (NODES - taken) NODES) start
+  pub left : sum_by unvisited visits + taken ≡ NODES
 
 -- one more place in front of a part of the walk
 part_more : (walk : List Place) (at end : ℕ) (place : Place) → 0 < at → at ≤ end → at ≤ length walk →
@@ -36,11 +37,11 @@ part_more walk at end place some order room =
     rw (longer, drop-set walk (at - 1) place (omega arith), next) refl
 
 module _ (backs : List (Option Step)) (start taken : ℕ) (visits : List (Option ℕ)) (walk : List Place) (node : ℕ) (step : Step)
-    (more : taken < 1024) (in_visits : length visits ≡ 1024) (in_walk : length walk ≡ 1024)
-    (new : visit_of visits node ≡ None) (back : back_of backs node ≡ Some step) (inside : step.edge.from < 1024)
+    (more : taken < NODES) (in_visits : length visits ≡ NODES) (in_walk : length walk ≡ NODES)
+    (new : visit_of visits node ≡ None) (back : back_of backs node ≡ Some step) (inside : step.edge.from < NODES)
     (so_far : IsTracing backs start taken visits walk node) where
   abbrev at : ℕ
-  at = 1024 - taken
+  at = NODES - taken
 
   abbrev walk_after : List Place
   walk_after = set walk (at - 1) step.place
@@ -56,7 +57,7 @@ module _ (backs : List (Option Step)) (start taken : ℕ) (visits : List (Option
       (node, record { step = step; back = back; place_is = refl; from_is = refl }, trail)
 
   visited_after : (other end : ℕ) → visit_of visits_after other ≡ Some end →
-      (at - 1 < end) × (end ≤ 1024) × IsTrail backs step.edge.from (slice_range walk_after (at - 1) end) other
+      (at - 1 < end) × (end ≤ NODES) × IsTrail backs step.edge.from (slice_range walk_after (at - 1) end) other
   visited_after other end is =
       elim (cases_eq other node) [
         | inl same ↦
@@ -75,11 +76,11 @@ module _ (backs : List (Option Step)) (start taken : ℕ) (visits : List (Option
 
   pub IsTracing-more : IsTracing backs start (taken + 1) visits_after walk_after step.edge.from
   IsTracing-more =
-      let next : 1024 - (taken + 1) ≡ at - 1 = omega arith in
+      let next : NODES - (taken + 1) ≡ at - 1 = omega arith in
       record {
         inside = inside;
         visited = rw next visited_after;
-        whole = rw next (longer 1024 start (omega arith) so_far.whole);
+        whole = rw next (longer NODES start (omega arith) so_far.whole);
         left =
             let change = sum_by-set unvisited visits node (Some at) None (omega (arith, so_far.inside)) in
             let old : unvisited (get_or visits node None) ≡ 1 = ap unvisited new in
@@ -88,18 +89,18 @@ module _ (backs : List (Option Step)) (start taken : ℕ) (visits : List (Option
 
 -- a node that the trace came by closes the walk
 pub IsLoop-visited : (backs : List (Option Step)) (start taken : ℕ) (visits : List (Option ℕ)) (walk : List Place) (node end : ℕ) →
-    IsTracing backs start taken visits walk node → visit_of visits node ≡ Some end → IsLoop backs walk (1024 - taken) end
+    IsTracing backs start taken visits walk node → visit_of visits node ≡ Some end → IsLoop backs walk (NODES - taken) end
 IsLoop-visited backs start taken visits walk node end so_far is =
     let found = so_far.visited node end is in
     record { some = found.0; most = found.1; node = node; trail = found.2 }
 
 -- after as many steps as there are nodes the trace came by the node
-pub IsTrace-done : (backs : List (Option Step)) (start taken : ℕ) (visits : List (Option ℕ)) (walk : List Place) (node : ℕ) (visit : Option ℕ) → 1024 ≤ taken →
-    length visits ≡ 1024 → IsTracing backs start taken visits walk node → visit_of visits node ≡ visit →
+pub IsTrace-done : (backs : List (Option Step)) (start taken : ℕ) (visits : List (Option ℕ)) (walk : List Place) (node : ℕ) (visit : Option ℕ) → NODES ≤ taken →
+    length visits ≡ NODES → IsTracing backs start taken visits walk node → visit_of visits node ≡ visit →
     IsTrace backs start walk (option_map (λ end. (0, end)) visit)
 IsTrace-done backs start taken visits walk node None all in_visits so_far is =
     let one : unvisited (visit_of visits node) ≡ 1 = ap unvisited is in
     absurd (omega (arith, so_far.left, get_or-le-sum_by unvisited visits node None (omega (arith, so_far.inside)), one))
 IsTrace-done backs start taken visits walk node (Some end) all in_visits so_far is =
-    let zero_at : 1024 - taken ≡ 0 = omega arith in
+    let zero_at : NODES - taken ≡ 0 = omega arith in
     rw zero_at at (IsLoop-visited backs start taken visits walk node end so_far is)

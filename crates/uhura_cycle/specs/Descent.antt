@@ -1,6 +1,7 @@
 -- How times fall from 0 by steps. It is enough to say of each node what its last step did.
 use Rattle.std.specs.Prelude.{ℕ, ◌+◌, ◌<◌, ◌≤◌, ◌≡◌, ◌⊎◌, ℤ, pos, ◌≤ℤ◌, ◌<ℤ◌, List, Option, None, Some, slice_index_or}
 use Rattle.std.specs.List.{All}
+use Rattle.uhura_net.specs.declared.edge.TheConstants.{NODES}
 use Rattle.uhura_net.specs.Edges.{Edges, time_at, Meets}
 use Rattle.uhura_cycle.specs.declared.step.Step.{Step}
 use Rattle.uhura_cycle.specs.Verdict.{IsNowhereAboveZero}
@@ -21,7 +22,7 @@ pub record History : Type 0 where
 pub record IsLowered (edges : Edges) (times : List ℤ) (history : History) (node : ℕ) (step : Step) : Type 0 where
   pub there : edges step.place.0 ≡ Some step.edge
   pub leads : step.edge.to ≡ node
-  pub inside : step.edge.from < 1024
+  pub inside : step.edge.from < NODES
   pub above : allowed_by step times ≤ℤ time_at times node
   pub since : time_at times node ≤ℤ allowed_by step times → history.moment step.edge.from < history.moment node
   pub pass : history.pass node ≤ history.pass step.edge.from + 1
@@ -32,7 +33,7 @@ pub record IsDescent (edges : Edges) (times : List ℤ) (backs : List (Option St
   pub resting : (node : ℕ) → back_of backs node ≡ None → (time_at times node ≡ pos 0) × (history.pass node ≡ 0)
   pub past : (node : ℕ) → history.moment node < history.now
   pub most : (node : ℕ) → time_at times node ≤ℤ pos 0
-  pub greatest : (others : ℕ → ℤ) → Meets edges others → IsNowhereAboveZero others → (node : ℕ) → node < 1024 → others node ≤ℤ time_at times node
+  pub greatest : (others : ℕ → ℤ) → Meets edges others → IsNowhereAboveZero others → (node : ℕ) → node < NODES → others node ≤ℤ time_at times node
 
 -- a step is kept, or its start was lowered in the given pass or later
 abbrev pub IsKeptSince : ℕ → List ℤ → History → Step → Type 0
@@ -56,7 +57,7 @@ pub record IsAtRest (edges : Edges) (steps : List Step) (lowest : ℤ) (times : 
 pub record IsPassed (edges : Edges) (steps : List Step) (passes : ℕ) (lowest : ℤ) (times : List ℤ) (backs : List (Option Step)) (node : ℕ) : Type 0 where
   pub history : History
   pub descent : IsDescent edges times backs history
-  pub inside : node < 1024
+  pub inside : node < NODES
   pub end : (time_at times node <ℤ lowest) ⊎ (IsAfterPasses edges steps passes lowest times backs history × (history.pass node ≡ passes))
 
 -- both, by the node that was lowered last, if one was

@@ -1,6 +1,7 @@
 -- The edges that are followed, and following one.
 use Rattle.std.specs.Prelude.{ℕ, ◌≡◌, ◌<◌, Bool, true, false, ℤ, ◌+ℤ◌, ◌≤ℤ◌, ◌<ℤ◌, List, Contains, Option, Some, IfSome, slice_set}
 use Rattle.std.specs.List.{All}
+use Rattle.uhura_net.specs.declared.edge.TheConstants.{NODES}
 use Rattle.uhura_net.specs.declared.edge.Edge.{Edge}
 use Rattle.uhura_net.specs.Table.{IsEdgeFor}
 use Rattle.uhura_net.specs.Edges.{Edges, time_at}
@@ -21,7 +22,7 @@ AreSoundSteps steps = All (λ step. IsEdgeFor step.place.0 step.edge) steps
 
 -- and each that is kept at a node begins at one
 abbrev pub AreSoundBacks : List (Option Step) → Type 0
-AreSoundBacks backs = All (λ back. IfSome back (λ step. step.edge.from < 1024)) backs
+AreSoundBacks backs = All (λ back. IfSome back (λ step. step.edge.from < NODES)) backs
 
 -- no time is below a bound
 abbrev pub HasTimesFrom : ℤ → List ℤ → Type 0

@@ -1,5 +1,6 @@
 -- Going back from a node, each time by the step that lowered the node last.
 use Rattle.std.specs.Prelude.{ℕ, ◌<◌, ◌≤◌, ◌≡◌, List, [], ◌∷◌, length, Option, None, Some, slice_range}
+use Rattle.uhura_net.specs.declared.edge.TheConstants.{NODES}
 use Rattle.uhura_net.specs.declared.place.Place.{Place}
 use Rattle.uhura_cycle.specs.declared.step.Step.{Step}
 use Rattle.uhura_cycle.specs.Descent.{back_of}
@@ -20,14 +21,14 @@ IsTrail backs from (place ∷ places) to = (node : ℕ) × IsBack backs from pla
 pub record IsFromRest (backs : List (Option Step)) (to : ℕ) : Type 0 where
   pub node : ℕ
   pub places : List Place
-  pub few : length places < 1024
+  pub few : length places < NODES
   pub rests : back_of backs node ≡ None
   pub trail : IsTrail backs node places to
 
 -- part of a walk that leads back to where it begins
 pub record IsLoop (backs : List (Option Step)) (walk : List Place) (from to : ℕ) : Type 0 where
   pub some : from < to
-  pub most : to ≤ 1024
+  pub most : to ≤ NODES
   pub node : ℕ
   pub trail : IsTrail backs node (slice_range walk from to) node
 

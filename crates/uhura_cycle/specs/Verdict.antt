@@ -1,5 +1,6 @@
 -- What the solver finds.
 use Rattle.std.specs.Prelude.{ℕ, ◌*◌, ◌<◌, ◌≡◌, Option, None, Some, slice_range, ℤ, pos, neg_ℤ, ◌≤ℤ◌, List, length}
+use Rattle.uhura_net.specs.declared.edge.TheConstants.{NODES}
 use Rattle.uhura_net.specs.declared.edge.Edge.{Edge}
 use Rattle.uhura_net.specs.declared.place.Place.{Place}
 use Rattle.uhura_net.specs.Edges.{Edges, time_at, Meets}
@@ -13,16 +14,16 @@ HasBoundsFrom most edges = (place : ℕ) (edge : Edge) → edges place ≡ Some 
 
 -- the times are nowhere above 0 on the nodes
 abbrev pub IsNowhereAboveZero : (ℕ → ℤ) → Type 0
-IsNowhereAboveZero times = (node : ℕ) → node < 1024 → times node ≤ℤ pos 0
+IsNowhereAboveZero times = (node : ℕ) → node < NODES → times node ≤ℤ pos 0
 
--- the times, one for each node, meet the edges, and at no node any other that meet them and are nowhere above 0 are
--- later. They are from minus 1,024 times the greatest absolute value of a bound to 0.
+-- The times, one for each node, meet the edges and are nowhere above 0, and other such times are later at no node. None
+-- is below minus 1,024 times the furthest that a bound is below 0.
 pub record AreGreatestTimes (edges : Edges) (times : List ℤ) : Type 0 where
-  pub nodes : length times ≡ 1024
+  pub nodes : length times ≡ NODES
   pub meet : Meets edges (time_at times)
   pub most : IsNowhereAboveZero (time_at times)
-  pub least : (most : ℕ) → HasBoundsFrom most edges → (node : ℕ) → neg_ℤ (pos (1024 * most)) ≤ℤ time_at times node
-  pub greatest : (others : ℕ → ℤ) → Meets edges others → IsNowhereAboveZero others → (node : ℕ) → node < 1024 → others node ≤ℤ time_at times node
+  pub least : (most : ℕ) → HasBoundsFrom most edges → (node : ℕ) → neg_ℤ (pos (NODES * most)) ≤ℤ time_at times node
+  pub greatest : (others : ℕ → ℤ) → Meets edges others → IsNowhereAboveZero others → (node : ℕ) → node < NODES → others node ≤ℤ time_at times node
 
 -- the verdict on edges: such times, or a closed walk whose bounds sum below 0
 abbrev pub IsVerdict : Edges → Verdict → Type 0

@@ -6,10 +6,9 @@ ghost use Rattle.uhura_cycle.specs.Steps.{AreStepsOf, AreSoundSteps};
 ghost use Rattle.uhura_cycle.specs.Verdict.{IsFound};
 
 use crate::relaxing::pass;
-use crate::scratch::NODES;
 use crate::step::Step;
 use crate::tracing::trace;
-use uhura_net::Place;
+use uhura_net::{NODES, Place};
 
 /// Lowers the times from 0 on until they meet the steps, or gives the part of `walk` that is closed and sums below 0. No
 /// bound is below `least`.
@@ -27,16 +26,16 @@ pub(crate) fn descend(
     requires most { least ≤ℤ pos 0 }
     requires below { All (λ step. least ≤ℤ step.edge.bound) steps.now }
     requires reached { (most : ℕ) → All (λ step. neg_ℤ (pos most) ≤ℤ step.edge.bound) steps.now → neg_ℤ (pos most) ≤ℤ least }
-    requires times { length times.old ≡ 1024 }
-    requires backs { length backs.old ≡ 1024 }
-    requires visits { length visits.old ≡ 1024 }
-    requires walk { length walk.old ≡ 1024 }
-    ensures part { IfSome result (λ part. (part.0 < part.1) × (part.1 ≤ 1024)) }
+    requires times { length times.old ≡ NODES }
+    requires backs { length backs.old ≡ NODES }
+    requires visits { length visits.old ≡ NODES }
+    requires walk { length walk.old ≡ NODES }
+    ensures part { IfSome result (λ part. (part.0 < part.1) × (part.1 ≤ NODES)) }
     ensures found { (edges : Edges) → AreStepsOf edges steps.now → IsFound edges times.new walk.new result }
 {
     times.fill(0);
     backs.fill(None);
-    let lowest = 1024 * least;
+    let lowest = NODES as i64 * least;
     for _pass in 0..NODES {
         let Some(node) = pass(steps, lowest, times, backs) else {
             return None;
@@ -45,5 +44,6 @@ pub(crate) fn descend(
             return Some(part);
         }
     }
+    // Not reached: after as many passes as there are nodes, the steps lead back to where they begin.
     None
 }

@@ -10,9 +10,9 @@ use uhura_net::{Edge, EdgeTable, PLACES, Place};
 
 /// Puts the chosen edges that are there to the front of `steps`, and says how many they are.
 pub(crate) fn gather(table: &EdgeTable, chosen: &[bool], steps: &mut [Step]) -> usize
-    requires chosen { length chosen.now ≡ 9472 }
-    requires steps { length steps.old ≡ 9472 }
-    ensures count { result ≤ 9472 }
+    requires chosen { length chosen.now ≡ PLACES }
+    requires steps { length steps.old ≡ PLACES }
+    ensures count { result ≤ PLACES }
     ensures steps { AreStepsOf (chosen_edges table.now chosen.now) (take result steps.new) }
     ensures sound { AreSoundSteps (take result steps.new) }
 {
@@ -31,8 +31,8 @@ pub(crate) fn gather(table: &EdgeTable, chosen: &[bool], steps: &mut [Step]) -> 
 
 // The edge at a place, where there is one and the place is chosen.
 fn chosen_edge(table: &EdgeTable, chosen: &[bool], number: u32) -> Option<Edge>
-    requires number { number < 9472 }
-    requires chosen { length chosen.now ≡ 9472 }
+    requires number { number < PLACES }
+    requires chosen { length chosen.now ≡ PLACES }
     ensures edge { result ≡ chosen_edges table.now chosen.now number }
     ensures sound { IfSome result (IsEdgeFor number) }
 {

@@ -1,12 +1,11 @@
 //! The memory of the solver.
 ghost use Rattle.std.specs.Prelude.{◌≡◌, vec_len};
+ghost use Rattle.uhura_net.specs.declared.edge.TheConstants.{NODES};
+ghost use Rattle.uhura_net.specs.declared.place.TheConstants.{PLACES};
 
 use crate::step::Step;
 use std::alloc::{AllocError, Global};
-use uhura_net::{PLACES, Place};
-
-/// The number of nodes.
-pub(crate) const NODES: usize = 1024;
+use uhura_net::{NODES, PLACES, Place};
 
 /// Room for the edges that are followed, and for each node its time, the step that lowered it last and where a trace
 /// came by it. Only `new` takes memory.
@@ -17,11 +16,11 @@ pub struct Scratch {
     pub(crate) backs: Vec<Option<Step>>,
     pub(crate) visits: Vec<Option<usize>>,
     pub(crate) walk: Vec<Place>,
-    ghost step_room: { vec_len steps ≡ 9472 },
-    ghost time_room: { vec_len times ≡ 1024 },
-    ghost back_room: { vec_len backs ≡ 1024 },
-    ghost visit_room: { vec_len visits ≡ 1024 },
-    ghost walk_room: { vec_len walk ≡ 1024 },
+    ghost step_room: { vec_len steps ≡ PLACES },
+    ghost time_room: { vec_len times ≡ NODES },
+    ghost back_room: { vec_len backs ≡ NODES },
+    ghost visit_room: { vec_len visits ≡ NODES },
+    ghost walk_room: { vec_len walk ≡ NODES },
 }
 
 impl Scratch {

@@ -6,12 +6,12 @@ ghost use Rattle.uhura_cycle.specs.Verdict.{IsVerdict};
 use crate::descending::descend;
 use crate::gathering::{gather, least_bound};
 use crate::{Scratch, Verdict};
-use uhura_net::EdgeTable;
+use uhura_net::{EdgeTable, PLACES};
 
 /// The verdict on the edges of the table at the chosen places. It takes no memory. The work is at most nodes times chosen
 /// edges, and much less where few passes settle the times or a closed walk is found early.
 pub fn settle<'a>(table: &EdgeTable, chosen: &[bool], scratch: &'a mut Scratch) -> Verdict<'a>
-    requires { length chosen.now ≡ 9472 }
+    requires { length chosen.now ≡ PLACES }
     ensures { IsVerdict (chosen_edges table.now chosen.now) result }
 {
     let count = gather(table, chosen, &mut scratch.steps);
@@ -35,7 +35,7 @@ pub fn settle<'a>(table: &EdgeTable, chosen: &[bool], scratch: &'a mut Scratch) 
 mod tests {
     use super::*;
     use std::alloc::{AllocError, Global};
-    use uhura_net::{Edge, PLACES, Place};
+    use uhura_net::{Edge, Place};
 
     const FIRM: u64 = 10_000_000_000;
 

@@ -3,9 +3,8 @@ ghost use Rattle.std.specs.Prelude.{◌≡◌, ◌<◌, length};
 ghost use Rattle.uhura_cycle.specs.Steps.{AreSoundBacks};
 ghost use Rattle.uhura_cycle.specs.Trail.{IsTrace};
 
-use crate::scratch::NODES;
 use crate::step::Step;
-use uhura_net::Place;
+use uhura_net::{NODES, Place};
 
 /// Goes back from `start` until it comes by a node again, or to one that no step lowered. The places stand in `walk` from
 /// its end on backward, so that they are in the order of the walk; the part that is given is the closed one.
@@ -15,11 +14,11 @@ pub(crate) fn trace(
     visits: &mut [Option<usize>],
     walk: &mut [Place],
 ) -> Option<(usize, usize)>
-    requires start { start < 1024 }
-    requires backs { length backs.now ≡ 1024 }
+    requires start { start < NODES }
+    requires backs { length backs.now ≡ NODES }
     requires sound { AreSoundBacks backs.now }
-    requires visits { length visits.old ≡ 1024 }
-    requires walk { length walk.old ≡ 1024 }
+    requires visits { length visits.old ≡ NODES }
+    requires walk { length walk.old ≡ NODES }
     ensures { IsTrace backs.now start walk.new result }
 {
     visits.fill(None);

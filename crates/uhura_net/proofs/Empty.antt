@@ -2,6 +2,7 @@
 use Rattle.std.proofs.Common.{◌≡◌, ℕ, zero, suc, List, get_or, length, replicate, Option, None, Some, IfSome, refl, sym, ap, subst, ◌∙◌}
 use Rattle.std.proofs.lemmas.List.{length-replicate}
 use Rattle.uhura_net.specs.declared.edge.Edge.{Edge}
+use Rattle.uhura_net.specs.declared.place.TheConstants.{PLACES}
 use Rattle.uhura_net.specs.Table.{IsTable, IsEdgeFor}
 
 -- copies of the default are the default everywhere
@@ -10,11 +11,11 @@ get_or-replicate_default zero i x = refl
 get_or-replicate_default (suc n) zero x = refl
 get_or-replicate_default (suc n) (suc i) x = get_or-replicate_default n i x
 
-pub IsTable-empty : (table : List (Option Edge)) → table ≡ replicate 9472 None → IsTable table
+pub IsTable-empty : (table : List (Option Edge)) → table ≡ replicate PLACES None → IsTable table
 IsTable-empty table empty = record {
-  places = ap length empty ∙ length-replicate {A = Option Edge} 9472 None;
+  places = ap length empty ∙ length-replicate {A = Option Edge} PLACES None;
   each = λ place.
       let holds : Option Edge → Type 0 = λ edge. IfSome edge (IsEdgeFor place) in
-      let none : get_or table place None ≡ None = ap (λ edges. get_or edges place None) empty ∙ get_or-replicate_default 9472 place None in
+      let none : get_or table place None ≡ None = ap (λ edges. get_or edges place None) empty ∙ get_or-replicate_default PLACES place None in
       subst holds (sym none) tt;
 }

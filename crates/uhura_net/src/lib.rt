@@ -8,6 +8,6 @@ pub mod laws;
 mod place;
 mod table;
 
-pub use edge::Edge;
+pub use edge::{Edge, NODES};
 pub use place::{PLACES, Place, key_of, place_of};
 pub use table::EdgeTable;

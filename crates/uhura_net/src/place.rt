@@ -20,7 +20,7 @@ pub struct Place(pub u32);
 pub fn place_of(key: EdgeKey) -> Place
     requires { HasPlace key }
     ensures place { result.0 ≡ place_number key }
-    ensures below { result.0 < 9472 }
+    ensures below { result.0 < PLACES }
 {
     match key {
         EdgeKey::Loose(side) => Place(first_place(side.item) + loose_row(side.side)),
@@ -31,7 +31,7 @@ pub fn place_of(key: EdgeKey) -> Place
 
 /// The edge that stands at a place.
 pub fn key_of(place: Place) -> EdgeKey
-    requires { place.0 < 9472 }
+    requires { place.0 < PLACES }
     ensures place { place_number result ≡ place.0 }
     ensures has_place { HasPlace result }
 {

@@ -27,7 +27,7 @@ impl Model for EdgeTable {
 impl EdgeTable {
     /// A table without an edge.
     pub fn new(alloc: Global) -> Result<EdgeTable, AllocError>
-        ensures { IfOk result (λ table. table ≡ replicate 9472 None) }
+        ensures { IfOk result (λ table. table ≡ replicate PLACES None) }
     {
         Ok(EdgeTable {
             edges: vec![in alloc; None; PLACES]?,
@@ -36,20 +36,20 @@ impl EdgeTable {
 
     /// The edge at a place.
     pub fn get(&self, place: Place) -> Option<Edge>
-        requires { place.0 < 9472 }
+        requires { place.0 < PLACES }
         ensures edge { result ≡ slice_index_or self.now place.0 None }
         ensures sound { IfSome result (IsEdgeFor place.0) }
-        ensures places { length self.now ≡ 9472 }
+        ensures places { length self.now ≡ PLACES }
     {
         self.edges[place.0 as usize]
     }
 
     /// Puts an edge, or none, at a place. All other places stay.
     pub fn put(&mut self, place: Place, edge: Option<Edge>)
-        requires place { place.0 < 9472 }
+        requires place { place.0 < PLACES }
         requires edge { IfSome edge (IsEdgeFor place.0) }
         ensures edges { self.new ≡ slice_set self.old place.0 edge }
-        ensures places { length self.old ≡ 9472 }
+        ensures places { length self.old ≡ PLACES }
     {
         self.edges[place.0 as usize] = edge;
     }

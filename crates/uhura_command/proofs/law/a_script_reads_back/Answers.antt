@@ -1,5 +1,3 @@
-use Rattle.uhura_command.specs.Replay.{ReadsBackAs}
-use Rattle.uhura_command.specs.Script.{script}
 use Rattle.uhura_command.specs.State.{empty_state}
 use Rattle.uhura_command.proofs.MakesPlan.{makes_plan}
 use Rattle.uhura_command.proofs.ScriptReplays.{script_replays}
