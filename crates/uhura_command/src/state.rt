@@ -35,3 +35,6 @@ impl State {
         })
     }
 }
+
+#[cfg(test)]
+mod tests;

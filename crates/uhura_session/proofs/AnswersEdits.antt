@@ -14,10 +14,3 @@ answers_edit command.Show state text refused next edits answered = absurd edits
 answers_edit command.Propose state text refused next edits answered = absurd edits
 answers_edit command.Prove state text refused next edits answered = absurd edits
 answers_edit c state text refused next edits answered = answered
-
--- a command that is no question edits
-pub no_question : (c : Command) → (c ≡ command.Show → ⊥) → (c ≡ command.Propose → ⊥) → (c ≡ command.Prove → ⊥) → IsEdit c
-no_question command.Show no_show no_propose no_prove = no_show refl
-no_question command.Propose no_show no_propose no_prove = no_propose refl
-no_question command.Prove no_show no_propose no_prove = no_prove refl
-no_question c no_show no_propose no_prove = tt
