@@ -1,7 +1,8 @@
 -- The numbers of a command that a line can give are within the limits of a plan.
-use Rattle.std.proofs.Common.{◌≡◌, ℕ, ℤ, pos, negsuc, Bool, true, false, ◌&&◌, ◌||◌, List, [], ◌∷◌, Option, Some, None, option_map, IfSome, All, int_le, bytes_eq, codes, refl, sym, ap, subst, ◌∙◌, arith}
+use Rattle.std.proofs.Common.{◌≡◌, ℕ, ℤ, pos, negsuc, Bool, true, false, ◌&&◌, ◌||◌, List, [], ◌∷◌, Option, Some, None, option_map, IfSome, All, int_le, bytes_eq, codes, sym, ap, subst, ◌∙◌, arith}
 use Rattle.std.specs.List.{list_all}
 use Rattle.std.specs.Option.{option_map_or}
+use Rattle.std.proofs.lemmas.Bool.{and_parts}
 use Rattle.std.proofs.lemmas.Int.{ints}
 use Rattle.std.proofs.lemmas.List.Elements.{All-nil, All-cons}
 use mir.Val.{to_z, of_z}
@@ -18,12 +19,6 @@ use Rattle.uhura_command.specs.Reads.{IsCommand, count_word, bound_word, priced_
 use Rattle.uhura_command.proofs.OneSpelling.{AreLimits, is_spelled, bound_limits, amount_limits, rate_limits, not_dash}
 use Rattle.uhura_command.proofs.OneForm.{other_word}
 
--- both of two tests hold
-pub both : (a b : Bool) → (a && b) ≡ true → (a ≡ true) × (b ≡ true)
-both true true h = (refl, refl)
-both true false h = let no : ⊥ = cc in absurd no
-both false b h = let no : ⊥ = cc in absurd no
-
 -- the second of two tests holds, where the first fails and one of them holds
 second : (a b : Bool) → a ≡ false → (a || b) ≡ true → b ≡ true
 second true b fails h = let no : ⊥ = cc in absurd no
@@ -33,7 +28,7 @@ second false b fails h = h
 number_within : (low high z : ℤ) → AreLimits low high → is_number low high (spelling z) ≡ true → (int_le low z ≡ true) × (int_le z high ≡ true)
 number_within low high z limits is =
     let read = is_spelled low high z limits is in
-    both (int_le low z) (int_le z high) (sym (ap (λ o. option_map_or (λ y. int_le low y && int_le y high) o false) read) ∙ is)
+    and_parts (int_le low z) (int_le z high) (sym (ap (λ o. option_map_or (λ y. int_le low y && int_le y high) o false) read) ∙ is)
 
 -- a bound
 pub bound_within : (bound : Option ℤ) → is_bound (bound_word bound) ≡ true → IfSome bound IsBound
@@ -80,14 +75,14 @@ most_within (Some n) is = amount_within n is
 pub price_within : (price : Option Price) → option_map_or is_priced (option_map priced_of price) true ≡ true → IfSome price IsPrice
 price_within None is = tt
 price_within (Some p) is =
-    let parts = both (is_rate (count_word p.rate)) (if_there is_amount (option_map count_word p.most)) is in
+    let parts = and_parts (is_rate (count_word p.rate)) (if_there is_amount (option_map count_word p.most)) is in
     record { rate = rate_of_within p.rate parts.0; most = most_within p.most parts.1 }
 
 -- the costs of alternatives
 pub costs_within : (alternatives : List (List ℕ × ℕ)) → list_all (λ a. is_amount a.1) (alternative_pairs alternatives) ≡ true → All (λ a. IsAmount a.1) alternatives
 costs_within [] is = All-nil (λ a. IsAmount a.1)
 costs_within (a ∷ more) is =
-    let parts = both (is_amount (count_word a.1)) (list_all (λ b. is_amount b.1) (alternative_pairs more)) is in
+    let parts = and_parts (is_amount (count_word a.1)) (list_all (λ b. is_amount b.1) (alternative_pairs more)) is in
     All-cons (λ b. IsAmount b.1) a more (amount_within a.1 parts.0) (costs_within more parts.1)
 
 -- ---- each kind of command that holds numbers
@@ -106,9 +101,9 @@ pub uncertain_within : (c : Command) (name start end : List ℕ) (lower upper : 
     → c ≡ command.Uncertain name start end lower upper lower_rate upper_rate → UncertainIsWithin lower upper lower_rate upper_rate
 uncertain_within c name start end lower upper lower_rate upper_rate good is =
     let numbers = (subst IsCommand is good).numbers in
-    let last = both (is_amount (spelling lower) && is_amount (spelling upper) && if_there is_rate (option_map count_word lower_rate)) (if_there is_rate (option_map count_word upper_rate)) numbers in
-    let third = both (is_amount (spelling lower) && is_amount (spelling upper)) (if_there is_rate (option_map count_word lower_rate)) last.0 in
-    let ends = both (is_amount (spelling lower)) (is_amount (spelling upper)) third.0 in
+    let last = and_parts (is_amount (spelling lower) && is_amount (spelling upper) && if_there is_rate (option_map count_word lower_rate)) (if_there is_rate (option_map count_word upper_rate)) numbers in
+    let third = and_parts (is_amount (spelling lower) && is_amount (spelling upper)) (if_there is_rate (option_map count_word lower_rate)) last.0 in
+    let ends = and_parts (is_amount (spelling lower)) (is_amount (spelling upper)) third.0 in
     record {
       lower = carried_end lower (end_within lower ends.0);
       upper = carried_end upper (end_within upper ends.1);
@@ -129,9 +124,9 @@ pub require_within : (c : Command) (name from to : List ℕ) (lower upper : Boun
     → c ≡ command.Require name from to lower upper guard → RequireIsWithin lower upper
 require_within c name from to lower upper guard good is =
     let numbers = (subst IsCommand is good).numbers in
-    let last = both (is_bound (bound_word lower.bound) && is_bound (bound_word upper.bound) && option_map_or is_priced (option_map priced_of lower.price) true) (option_map_or is_priced (option_map priced_of upper.price) true) numbers in
-    let third = both (is_bound (bound_word lower.bound) && is_bound (bound_word upper.bound)) (option_map_or is_priced (option_map priced_of lower.price) true) last.0 in
-    let bounds = both (is_bound (bound_word lower.bound)) (is_bound (bound_word upper.bound)) third.0 in
+    let last = and_parts (is_bound (bound_word lower.bound) && is_bound (bound_word upper.bound) && option_map_or is_priced (option_map priced_of lower.price) true) (option_map_or is_priced (option_map priced_of upper.price) true) numbers in
+    let third = and_parts (is_bound (bound_word lower.bound) && is_bound (bound_word upper.bound)) (option_map_or is_priced (option_map priced_of lower.price) true) last.0 in
+    let bounds = and_parts (is_bound (bound_word lower.bound)) (is_bound (bound_word upper.bound)) third.0 in
     record {
       lower = record { bound = bound_within lower.bound bounds.0; price = price_within lower.price third.1 };
       upper = record { bound = bound_within upper.bound bounds.1; price = price_within upper.price last.1 };
@@ -152,7 +147,7 @@ pub record RangeIsWithin (low high : ℤ) : Type 0 where
 
 pub range_within : (c : Command) (name : List ℕ) (lower upper : ℤ) → IsCommand c → c ≡ command.Range name lower upper → RangeIsWithin lower upper
 range_within c name lower upper good is =
-    let ends = both (is_amount (spelling lower)) (is_amount (spelling upper)) (subst IsCommand is good).numbers in
+    let ends = and_parts (is_amount (spelling lower)) (is_amount (spelling upper)) (subst IsCommand is good).numbers in
     record { lower = carried_end lower (end_within lower ends.0); upper = carried_end upper (end_within upper ends.1) }
 
 pub new_cost_within : (c : Command) (choice alternative : List ℕ) (cost : ℕ) → IsCommand c → c ≡ command.Prefer choice alternative cost → IsAmount cost
