@@ -9,6 +9,7 @@ pub mod Walk
 pub mod Ranks
 pub mod FirstCheapest
 pub mod PlainBounds
+pub mod PickLines
 pub mod PlainText
 pub mod Conversing
 pub mod PlainTest
