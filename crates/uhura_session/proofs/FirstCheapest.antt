@@ -1,5 +1,5 @@
 -- The first cheapest open branch among those that the walk has passed.
-use Rattle.std.proofs.Common.{◌≡◌, ℕ, ◌<◌, ◌≤◌, List, Option, None, Some, refl, sym, ap, subst, inl, inr, arith}
+use Rattle.std.proofs.Common.{◌≡◌, ◌<◌, List, Option, None, Some, refl, sym, ap, subst, inl, inr, arith}
 use Rattle.std.specs.Prelude.{◌⊎◌}
 use Rattle.std.proofs.lemmas.Bool.{cases_lt}
 use Rattle.uhura_plan.specs.Lists.{Lists}
@@ -7,7 +7,7 @@ use Rattle.uhura_choice.specs.declared.prefix.Pick.{Pick}
 use Rattle.uhura_choice.specs.Branch.{IsBranch, IsEarlier, picked_cost}
 use Rattle.uhura_choice.specs.Walk.{IsFirstBranch, IsLastBranch, IsNextBranch}
 use Rattle.uhura_choice.proofs.Earlier.{Compare, compare, earlier-trans, earlier-irreflexive}
-use Rattle.uhura_session.specs.Branches.{IsOpen, IsFirstCheapest, IsBestOf, IsAny, CostsLess, IsBetter}
+use Rattle.uhura_session.specs.Branches.{IsOpen, IsFirstCheapest, IsBestOf, IsAny, IsBetter}
 
 -- earlier than this one
 abbrev pub IsBefore : List Pick → List Pick → Type 0

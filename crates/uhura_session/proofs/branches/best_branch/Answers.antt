@@ -1,5 +1,5 @@
 use Rattle.uhura_session.specs.Branches.{IsBestOf}
-use Rattle.uhura_session.proofs.FirstCheapest.{IsUpTo, best-start, best-more, best-next, best-last}
+use Rattle.uhura_session.proofs.FirstCheapest.{IsUpTo, best-more, best-next, best-last}
 use Rattle.uhura_session.proofs.Ranks.{rank-falls}
 use Rattle.uhura_session.proofs.branches.best_branch.Goals as goal
 

@@ -1,4 +1,4 @@
-use Rattle.std.proofs.Common.{◌≡◌, Option, Some, None, length, subst, ap, ◌∙◌, inl, inr, rules, ◌++◌}
+use Rattle.std.proofs.Common.{◌≡◌, Some, None, length, subst, ap, ◌∙◌, inl, inr, rules, ◌++◌}
 use Rattle.std.specs.Prelude.{codes}
 use Rattle.uhura_session.specs.Schedule.{time_at}
 use Rattle.uhura_session.specs.Plain.{unloosened}
