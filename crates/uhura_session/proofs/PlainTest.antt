@@ -1,15 +1,13 @@
 -- A plan that passes the test is plain.
-use Rattle.std.proofs.Common.{◌≡◌, ℕ, ◌<◌, Bool, true, false, ◌&&◌, List, [], ◌∷◌, length, get_or, nat_eq, Option, None, Some, is_none, All, IsSomeAnd, slice_get, refl, sym, ap, subst, ◌∙◌, arith}
+use Rattle.std.proofs.Common.{◌≡◌, ◌<◌, Bool, true, false, ◌&&◌, List, [], ◌∷◌, length, get_or, nat_eq, Option, None, Some, is_none, refl, subst, arith}
 use Rattle.std.specs.List.{list_all}
 use Rattle.std.proofs.lemmas.Bool.Decides.{nat_tests}
 use Rattle.std.proofs.lemmas.List.Sums.{AllPass-from_list_all}
 use Rattle.uhura_plan.specs.Lists.{Lists}
 use Rattle.uhura_plan.specs.declared.key.EventRef.{EventRef}
 use Rattle.uhura_plan.specs.declared.key.EventRef.TheVariants.{Controllable, End}
-use Rattle.uhura_plan.specs.declared.guard.Literal.{Literal}
-use Rattle.uhura_plan.specs.declared.choice.Choice.{Choice}
 use Rattle.uhura_plan.specs.declared.requirement.Requirement.{Requirement}
-use Rattle.uhura_plan.specs.Sound.{IsEventAmong, IsLiteralAmong, IsSoundRequirement, IsSound}
+use Rattle.uhura_plan.specs.Sound.{IsEventAmong, IsSoundRequirement, IsSound}
 use Rattle.uhura_session.specs.Answers.{is_unpriced, is_plain}
 use Rattle.uhura_session.specs.Plain.{IsControllable, IsPlainRequirement, IsPlain}
 
@@ -31,34 +29,22 @@ controllable : (plan : Lists) (event : EventRef) → plan.uncertains ≡ [] → 
 controllable plan (Controllable e) none among = among
 controllable plan (End d) none among = let no : d < 0 = subst (λ us. d < length us) none among in absurd (omega (arith, no))
 
--- without choices a guard has no literal
-no_literal : (choices : List Choice) (guard : List Literal) → choices ≡ [] → All (IsLiteralAmong choices) guard → guard ≡ []
-no_literal choices [] none among = refl
-no_literal choices (l ∷ ls) none among =
-    let first : IsSomeAnd (slice_get choices l.choice) (λ c. l.alternative < length c.alternatives) = among 0 l (omega arith) in
-    let no : IsSomeAnd (slice_get {X = Choice} [] l.choice) (λ c. l.alternative < length c.alternatives) = subst (λ cs. IsSomeAnd (slice_get cs l.choice) (λ c. l.alternative < length c.alternatives)) none first in
-    absurd no
-
-plain_requirement : (plan : Lists) (r : Requirement) → plan.uncertains ≡ [] → plan.choices ≡ [] → is_unpriced r ≡ true → IsSoundRequirement plan r → IsPlainRequirement plan r
-plain_requirement plan r no_durations no_choices free sound =
+plain_requirement : (plan : Lists) (r : Requirement) → plan.uncertains ≡ [] → is_unpriced r ≡ true → IsSoundRequirement plan r → IsPlainRequirement plan r
+plain_requirement plan r no_durations free sound =
     let prices = both (is_none r.lower.price) (is_none r.upper.price) free in
     record {
       from = controllable plan r.from no_durations sound.from;
       to = controllable plan r.to no_durations sound.to;
       lower = nothing_there r.lower.price prices.0;
       upper = nothing_there r.upper.price prices.1;
-      guard = no_literal plan.choices r.guard no_choices sound.guard.among;
     }
 
 pub plain_from_test : (plan : Lists) → IsSound plan → is_plain plan ≡ true → IsPlain plan
 plain_from_test plan sound test =
-    let parts = both (nat_eq (length plan.uncertains) 0 && nat_eq (length plan.choices) 0) (list_all is_unpriced plan.requirements) test in
-    let empty = both (nat_eq (length plan.uncertains) 0) (nat_eq (length plan.choices) 0) parts.0 in
-    let no_durations = no_items plan.uncertains empty.0 in
-    let no_choices = no_items plan.choices empty.1 in
+    let parts = both (nat_eq (length plan.uncertains) 0) (list_all is_unpriced plan.requirements) test in
+    let no_durations = no_items plan.uncertains parts.0 in
     let free = AllPass-from_list_all is_unpriced plan.requirements parts.1 in
     record {
       uncertains = no_durations;
-      choices = no_choices;
-      requirements = λ k d within. plain_requirement plan (get_or plan.requirements k d) no_durations no_choices (free k d within) (sound.requirements k d within);
+      requirements = λ k d within. plain_requirement plan (get_or plan.requirements k d) no_durations (free k d within) (sound.requirements k d within);
     }

@@ -1,6 +1,6 @@
 -- A replayed script is a conversation in which every line is accepted.
-use Rattle.std.proofs.Common.{◌≡◌, ℕ, Bool, false, List, [], ◌∷◌, ◌++◌, map, Ok, Some, None, refl, sym, ap, subst, ◌∙◌, lit≤}
-use Rattle.std.specs.Prelude.{codes, option_map}
+use Rattle.std.proofs.Common.{◌≡◌, ℕ, false, List, [], ◌∷◌, ◌++◌, map, Ok, Some, None, refl, sym, ap, subst, ◌∙◌, lit≤}
+use Rattle.std.specs.Prelude.{codes}
 use Rattle.uhura_text.specs.Lines.{lines, shown}
 use Rattle.uhura_text.specs.Words.{is_quiet}
 use Rattle.uhura_plan.specs.Lists.{Lists}
@@ -20,7 +20,7 @@ use Rattle.uhura_session.specs.Answers.{Answers, AnswersEdit, accepted_text, sho
 use Rattle.uhura_session.specs.Transcript.{Conversation}
 use Rattle.uhura_session.specs.ReadsBack.{ReadsBackAs}
 use Rattle.uhura_session.proofs.AnswersEdits.{answers_edit}
-use Rattle.uhura_session.proofs.Conversing.{Conversation-nil, Conversation-push}
+use Rattle.uhura_session.proofs.Conversing.{Conversation-push}
 
 -- an applied command is answered `ok`
 accepted : (state next : State) (c : Command) → Applies state c next → AnswersEdit (refusal_of state c) (Applies state c next) state accepted_text false next

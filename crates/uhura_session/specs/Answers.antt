@@ -71,9 +71,9 @@ pub record Grants (Says Next : Type 0) (refused : Bool) : Type 0 where
 abbrev pub is_unpriced : Requirement → Bool
 is_unpriced r = is_none r.lower.price && is_none r.upper.price
 
--- a plan that can be asked so far: it has no duration, no choice, and no requirement with a price
+-- a plan that can be asked so far: it has no duration, and no requirement with a price. Choices and guards count
 abbrev pub is_plain : Lists → Bool
-is_plain plan = nat_eq (length plan.uncertains) 0 && nat_eq (length plan.choices) 0 && list_all is_unpriced plan.requirements
+is_plain plan = nat_eq (length plan.uncertains) 0 && list_all is_unpriced plan.requirements
 
 -- the answer to a question: a best proposal, or `none` exactly where nothing is allowed
 abbrev pub IsProposed : State → List ℕ → Type 0

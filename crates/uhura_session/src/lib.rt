@@ -2,6 +2,7 @@
 #![tactic(auto)]
 
 mod answer;
+mod branches;
 mod constraints;
 mod edit;
 mod error;

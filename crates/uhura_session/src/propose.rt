@@ -1,19 +1,20 @@
-//! The answer to `propose`: the earliest schedule, or `none`.
-ghost use Rattle.std.specs.Prelude.{◌≡◌, ℕ, ◌+◌, ◌≤◌, ◌++◌, [], ◌∷◌, true, false, length, replicate, drop, pos, IfOk, codes};
+//! The answer to `propose`: the first cheapest branch that has a schedule, with its earliest one, or `none`.
+ghost use Rattle.std.specs.Prelude.{◌≡◌, ◌≤◌, ◌++◌, [], ◌∷◌, true, length, pos, IfOk, codes};
 ghost use Rattle.std.specs.List.{list_all};
 ghost use Rattle.uhura_text.specs.Number.{spelling};
-ghost use Rattle.uhura_plan.specs.Sound.{IsSound};
 ghost use Rattle.uhura_command.specs.Written.{line_of};
-ghost use Rattle.uhura_session.specs.ProposalText.{time_lines, proposal_text};
+ghost use Rattle.uhura_session.specs.ProposalText.{alternative_name, pick_lines, time_lines, proposal_text};
 ghost use Rattle.uhura_session.specs.Answers.{AnswersQuestion, IsProposed, is_plain, is_unpriced};
-ghost use Rattle.uhura_session.specs.Schedule.{time_at};
-ghost use Rattle.uhura_session.specs.Plain.{IsPlain, all_constraints, free, unloosened};
+ghost use Rattle.uhura_session.specs.Schedule.{IsLeastSolution, time_at};
+ghost use Rattle.uhura_session.specs.Plain.{IsPlain, branch_constraints, free, unloosened};
+ghost use Rattle.uhura_session.specs.Branches.{IsOpen};
 
-use crate::constraints::collect;
+use crate::branches::{best_branch, solve_branch};
 use crate::error::put_unbuilt;
-use crate::schedule::{Constraint, earliest};
+use crate::schedule::Constraint;
 use std::alloc::AllocError;
-use uhura_plan::{Name, Plan, Requirement};
+use uhura_choice::{Branch, Pick, picked_cost};
+use uhura_plan::{Choice, Name, Plan, Requirement};
 use uhura_text::put_number;
 
 /// Appends the line of an event's time.
@@ -41,14 +42,67 @@ fn put_times(text: &mut Vec<u8>, plan: &Plan, times: &[i64]) -> Result<(), Alloc
     Ok(())
 }
 
-/// Writes the proposal that loosens nothing and has these times.
-fn put_proposal(text: &mut Vec<u8>, plan: &Plan, times: &[i64]) -> Result<(), AllocError>
+/// Appends the line of a pick: none where the choice isn't active.
+fn put_pick(text: &mut Vec<u8>, choice: &Choice, pick: Pick) -> Result<(), AllocError>
+    ensures { IfOk result (λ _. text.new.items ≡ text.old.items ++ pick_lines (choice.now ∷ []) (pick ∷ [])) }
+{
+    if let Pick::Alternative(alternative) = pick {
+        text.extend_from_slice(b"pick ")?;
+        text.extend_from_slice(choice.name.bytes())?;
+        text.extend_from_slice(b" ")?;
+        put_alternative(text, choice, alternative)?;
+        text.extend_from_slice(b"\n")?;
+    }
+    Ok(())
+}
+
+/// Appends the name of an alternative of the choice.
+fn put_alternative(text: &mut Vec<u8>, choice: &Choice, alternative: u32) -> Result<(), AllocError>
+    ensures { IfOk result (λ _. text.new.items ≡ text.old.items ++ alternative_name choice.now alternative) }
+{
+    if let Some((name, _)) = choice.alternatives.as_slice().get(alternative as usize) {
+        text.extend_from_slice(name.bytes())?;
+    }
+    Ok(())
+}
+
+/// Appends the lines of the picks.
+fn put_picks(text: &mut Vec<u8>, plan: &Plan, picks: &[Pick]) -> Result<(), AllocError>
+    requires { length picks.now ≤ 16 }
+    ensures { IfOk result (λ _. text.new.items ≡ text.old.items ++ pick_lines plan.now.choices picks.now) }
+{
+    for place in 0..picks.len() as u32 {
+        if let Some(choice) = plan.choice(place) {
+            put_pick(text, choice, picks[place as usize])?;
+        }
+    }
+    Ok(())
+}
+
+/// Appends the line of the cost.
+fn put_cost(text: &mut Vec<u8>, cost: u64) -> Result<(), AllocError>
+    ensures { IfOk result (λ _. text.new.items ≡ text.old.items ++ line_of (codes "proposal" ∷ spelling (pos cost) ∷ [])) }
+{
+    text.extend_from_slice(b"proposal ")?;
+    put_number(text, i128::from(cost))?;
+    text.extend_from_slice(b"\n")?;
+    Ok(())
+}
+
+/// Writes the proposal with this branch and these times that loosens nothing.
+fn put_proposal(
+    text: &mut Vec<u8>,
+    plan: &Plan,
+    branch: &Branch,
+    times: &[i64],
+) -> Result<(), AllocError>
     requires plain { IsPlain plan.now }
     requires count { length times.now ≡ length plan.now.events }
     requires empty { text.old.items ≡ [] }
-    ensures { IfOk result (λ _. text.new.items ≡ proposal_text plan.now (unloosened (time_at times.now))) }
+    ensures { IfOk result (λ _. text.new.items ≡ proposal_text plan.now (unloosened branch.now (time_at times.now))) }
 {
-    text.extend_from_slice(b"proposal 0\n")?;
+    put_cost(text, picked_cost(plan, branch))?;
+    put_picks(text, plan, branch.entries())?;
     put_times(text, plan, times)?;
     text.extend_from_slice(b"end\n")?;
     Ok(())
@@ -62,26 +116,45 @@ fn clear_times(times: &mut Vec<i64>, events: usize) -> Result<(), AllocError>
     times.resize(events, 0)
 }
 
-/// Writes the best proposal into the text, or `none`, with the constraints of all requirements at hand.
-fn put_answer(
-    text: &mut Vec<u8>,
+/// Fills the times with the earliest schedule of a branch that has one.
+fn schedule_branch(
     plan: &Plan,
-    constraints: &[Constraint],
+    branch: &Branch,
+    constraints: &mut Vec<Constraint>,
     times: &mut [i64],
 ) -> Result<(), AllocError>
     requires plain { IsPlain plan.now }
-    requires sound { IsSound plan.now }
-    requires constraints { constraints.now ≡ all_constraints plan.now.requirements }
+    requires count { length times.old ≡ length plan.now.events }
+    requires open_branch { IsOpen plan.now branch.now }
+    ensures { IfOk result (λ _. IsLeastSolution (branch_constraints plan.now.requirements branch.now) times.new) }
+{
+    let _solved = solve_branch(plan, branch, constraints, times)?;
+    Ok(())
+}
+
+/// Writes the best proposal into the text, or `none`.
+fn put_answer(
+    text: &mut Vec<u8>,
+    plan: &Plan,
+    constraints: &mut Vec<Constraint>,
+    times: &mut [i64],
+) -> Result<(), AllocError>
+    requires plain { IsPlain plan.now }
     requires count { length times.old ≡ length plan.now.events }
     requires empty { text.old.items ≡ [] }
     ensures { IfOk result (λ _. IsProposed (free plan.now) text.new.items) }
 {
-    if earliest(constraints, times) {
-        put_proposal(text, plan, times)?;
-    } else {
-        text.extend_from_slice(b"none\n")?;
+    match best_branch(plan, constraints, times)? {
+        Some(branch) => {
+            schedule_branch(plan, &branch, constraints, times)?;
+            put_proposal(text, plan, &branch, times)?;
+            Ok(())
+        }
+        None => {
+            text.extend_from_slice(b"none\n")?;
+            Ok(())
+        }
     }
-    Ok(())
 }
 
 /// Writes the best proposal into the text, or `none`. The two lists are room to work in, kept from one question to the
@@ -96,7 +169,6 @@ fn solve(
     requires empty { text.old.items ≡ [] }
     ensures { IfOk result (λ _. IsProposed (free plan.now) text.new.items) }
 {
-    collect(constraints, plan)?;
     clear_times(times, plan.events() as usize)?;
     put_answer(text, plan, constraints, times)
 }
@@ -107,7 +179,7 @@ fn is_plain(plan: &Plan) -> bool
     ensures plain { result ≡ is_plain plan.now }
     ensures meets { result ≡ true → IsPlain plan.now }
 {
-    plan.uncertains() == 0 && plan.choices() == 0 && has_no_price(plan)
+    plan.uncertains() == 0 && has_no_price(plan)
 }
 
 /// Whether no requirement has a price.

@@ -1,4 +1,4 @@
-use Rattle.std.proofs.Common.{◌≡◌, ◌+◌, Bool, false, true, ◌&&◌, drop, sym, ap, ◌∙◌, Some, slice_get}
+use Rattle.std.proofs.Common.{◌≡◌, ◌+◌, false, true, ◌&&◌, drop, sym, ap, ◌∙◌, Some, slice_get}
 use Rattle.std.specs.Prelude.{option_copied}
 use Rattle.std.specs.List.{list_all}
 use Rattle.uhura_session.specs.Answers.{is_unpriced}
