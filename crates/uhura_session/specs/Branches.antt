@@ -28,10 +28,6 @@ IsBestOf Kind plan (Some branch) = IsFirstCheapest Kind plan branch
 abbrev pub IsAny : List Pick → Type 0
 IsAny picks = Unit {0}
 
--- earlier than this one
-abbrev pub IsBefore : List Pick → List Pick → Type 0
-IsBefore bound picks = IsEarlier picks bound
-
 -- the branch costs less than the best so far, if there is one
 abbrev pub CostsLess : Lists → Option (List Pick) → List Pick → Type 0
 CostsLess plan None branch = Unit {0}

@@ -1,8 +1,9 @@
 //! The first cheapest branch of a plan whose requirements have a schedule.
 ghost use Rattle.std.specs.Prelude.{◌≡◌, length, IfOk, MatchBool};
 ghost use Rattle.uhura_choice.specs.Branch.{IsBranch};
-ghost use Rattle.uhura_session.specs.Plain.{IsPlain};
-ghost use Rattle.uhura_session.specs.Branches.{IsBestOf, IsAny, CostsLess, IsBetter, IsSolved};
+ghost use Rattle.uhura_session.specs.Schedule.{IsLeastSolution};
+ghost use Rattle.uhura_session.specs.Plain.{IsPlain, branch_constraints};
+ghost use Rattle.uhura_session.specs.Branches.{IsOpen, IsBestOf, IsAny, CostsLess, IsBetter, IsSolved};
 
 use crate::constraints::collect;
 use crate::schedule::{Constraint, earliest};
@@ -63,9 +64,25 @@ fn is_cheaper(plan: &Plan, best: &Option<Branch>, branch: &Branch) -> bool
     }
 }
 
+/// Fills the times with the earliest schedule of a branch that has one.
+pub fn schedule_branch(
+    plan: &Plan,
+    branch: &Branch,
+    constraints: &mut Vec<Constraint>,
+    times: &mut [i64],
+) -> Result<(), AllocError>
+    requires plain { IsPlain plan.now }
+    requires count { length times.old ≡ length plan.now.events }
+    requires open_branch { IsOpen plan.now branch.now }
+    ensures { IfOk result (λ _. IsLeastSolution (branch_constraints plan.now.requirements branch.now) times.new) }
+{
+    let _solved = solve_branch(plan, branch, constraints, times)?;
+    Ok(())
+}
+
 /// Fills the times with the earliest schedule of the requirements that are active in the branch, and says whether there
 /// is one.
-pub fn solve_branch(
+fn solve_branch(
     plan: &Plan,
     branch: &Branch,
     constraints: &mut Vec<Constraint>,

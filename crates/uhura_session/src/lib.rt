@@ -7,6 +7,7 @@ mod constraints;
 mod edit;
 mod error;
 pub mod law;
+mod proposal;
 mod propose;
 mod schedule;
 mod session;

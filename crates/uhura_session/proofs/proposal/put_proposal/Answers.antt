@@ -6,7 +6,7 @@ use Rattle.uhura_command.specs.Written.{line_of}
 use Rattle.uhura_session.specs.ProposalText.{pick_lines, time_lines}
 use Rattle.uhura_session.specs.Schedule.{time_at}
 use Rattle.uhura_session.proofs.PlainText.{plain_text}
-use Rattle.uhura_session.proofs.propose.put_proposal.Goals as goal
+use Rattle.uhura_session.proofs.proposal.put_proposal.Goals as goal
 
 pub returns : goal.returns
 returns c =

@@ -8,8 +8,8 @@ use Rattle.uhura_command.specs.Written.{line_of}
 use Rattle.uhura_session.specs.ProposalText.{time_lines}
 use Rattle.uhura_session.specs.Schedule.{time_at}
 use Rattle.uhura_session.proofs.Walk.{left_at, ended_at, extended}
-use Rattle.uhura_session.proofs.propose.put_times.Goals as goal
-use Rattle.uhura_session.proofs.propose.put_times.Goals.{in-Some+in_ok-put_time, in_default}
+use Rattle.uhura_session.proofs.proposal.put_times.Goals as goal
+use Rattle.uhura_session.proofs.proposal.put_times.Goals.{in-Some+in_ok-put_time, in_default}
 
 pub loop-event-preserved : goal.loop-event-preserved
 loop-event-preserved c =
