@@ -1,5 +1,5 @@
 pub mod Clones
 mod Empty
 mod Rows
-mod Scaled
+pub mod Scaled
 mod Walks

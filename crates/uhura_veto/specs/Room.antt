@@ -1,5 +1,5 @@
 -- How far a side may be loosened or narrowed: by its own limit and by the caps on it.
-use Rattle.std.specs.Prelude.{ℕ, ◌-ℤ◌, ◌*◌, ◌≤◌, ◌&&◌, min, nat_abs, nat_eq, Bool, true, false, if◌then◌else◌, ℤ, List, [], ◌∷◌, ◌++◌, fold, None, Some, Option, option_to_list}
+use Rattle.std.specs.Prelude.{ℕ, ◌-ℤ◌, ◌*◌, ◌≤◌, ◌&&◌, min, nat_abs, nat_eq, Bool, true, false, if◌then◌else◌, ℤ, List, [], ◌∷◌, ◌++◌, fold, None, Some, Option, option_to_list, option_map}
 use Rattle.uhura_plan.specs.declared.key.Side.{Side}
 use Rattle.uhura_plan.specs.declared.key.Side.TheVariants.{Lower, Upper}
 use Rattle.uhura_plan.specs.declared.key.Item.{Item}
@@ -59,6 +59,10 @@ room_to_narrow (Some rate) width caps = least_of (width ∷ caps)
 abbrev pub bounded_of : Side → Requirement → Bounded
 bounded_of Lower r = r.lower
 bounded_of Upper r = r.upper
+
+-- the rate at which a requirement's side may be loosened
+abbrev pub loosening_rate : Side → Requirement → Option ℕ
+loosening_rate side r = option_map (λ price. price.rate) (bounded_of side r).price
 
 -- the rate at which a duration's side may be narrowed
 abbrev pub rate_of : Side → Uncertain → Option ℕ

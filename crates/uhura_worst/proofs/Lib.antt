@@ -1,2 +1,3 @@
 mod Single
 mod CappedDrive
+mod WorstCase
