@@ -16,6 +16,7 @@ use Rattle.uhura_plan.specs.Find.{requirement_in}
 use Rattle.uhura_choice.specs.declared.prefix.Pick.{Pick}
 use Rattle.uhura_choice.specs.Branch.{holds}
 use Rattle.uhura_net.specs.declared.edge.Edge.{Edge}
+use Rattle.uhura_worst.specs.declared.constraint.Constraint.{Constraint}
 use Rattle.uhura_veto.specs.declared.veto.Veto.{Veto}
 use Rattle.uhura_veto.specs.declared.room.Room.{Room}
 use Rattle.uhura_veto.specs.declared.room.Room.TheVariants.{Units, Unlimited}
@@ -37,12 +38,6 @@ least_node (End d) = least_end d
 abbrev pub greatest_node : EventRef → ℕ
 greatest_node (Controllable e) = e
 greatest_node (End d) = greatest_end d
-
--- the time of the node `to` is at most `bound` after that of the node `from`
-pub record Constraint : Type 0 where
-  pub from : ℕ
-  pub to : ℕ
-  pub bound : ℤ
 
 -- the event `to` comes at most `bound` after the event `from`, however late the one and however early the other
 abbrev pub between : EventRef → EventRef → ℤ → Constraint
@@ -76,44 +71,37 @@ abbrev pub firm_edge : Room → Constraint → Option Edge
 firm_edge (Units most) c = Some (record { from = c.from; to = c.to; bound = c.bound +ℤ pos most; capacity = firm_capacity })
 firm_edge Unlimited c = None
 
--- the edges of a side of a requirement, under these vetoes
-abbrev pub requirement_loose : Side → Requirement → Option Edge
-requirement_loose side r = option_and_then (loose_edge (loosening_rate side r)) (requirement_constraint side r)
+-- the table of a requirement, under these vetoes
+abbrev pub requirement_edge : List Veto → Requirement → EdgeKey → Option Edge
+requirement_edge vetoes r (Loose key) = option_and_then (loose_edge (loosening_rate key.side r)) (requirement_constraint key.side r)
+requirement_edge vetoes r (Firm key) = option_and_then (firm_edge (requirement_room vetoes key.side r)) (requirement_constraint key.side r)
+requirement_edge vetoes r (Order d) = None
 
-abbrev pub requirement_firm : List Veto → Side → Requirement → Option Edge
-requirement_firm vetoes side r = option_and_then (firm_edge (requirement_room vetoes side r)) (requirement_constraint side r)
+-- the table of the duration in place d
+abbrev pub duration_edge : List Veto → ℕ → Uncertain → EdgeKey → Option Edge
+duration_edge vetoes d u (Loose key) = loose_edge (rate_of key.side u) (duration_constraint key.side d u)
+duration_edge vetoes d u (Firm key) = firm_edge (duration_room vetoes d key.side u) (duration_constraint key.side d u)
+duration_edge vetoes d u (Order e) = firm_edge (Units 0) (order_constraint d)
 
--- and those of the duration in place d
-abbrev pub duration_loose : ℕ → Side → Uncertain → Option Edge
-duration_loose d side u = loose_edge (rate_of side u) (duration_constraint side d u)
+-- the item whose table has the edge
+abbrev pub item_of : EdgeKey → Item
+item_of (Loose key) = key.item
+item_of (Firm key) = key.item
+item_of (Order d) = item.Uncertain d
 
-abbrev pub duration_firm : List Veto → ℕ → Side → Uncertain → Option Edge
-duration_firm vetoes d side u = firm_edge (duration_room vetoes d side u) (duration_constraint side d u)
-
-abbrev pub duration_order : ℕ → Option Edge
-duration_order d = firm_edge (Units 0) (order_constraint d)
-
--- the loose edge and the firm edge of an item's side, none where the plan has no such item
-abbrev pub loose_of : State → Side → Item → Option Edge
-loose_of state side (item.Requirement slot) = option_and_then (requirement_loose side) (requirement_in state.plan slot)
-loose_of state side (item.Uncertain d) = option_and_then (duration_loose d side) (slice_get state.plan.uncertains d)
-
-abbrev pub firm_of : State → Side → Item → Option Edge
-firm_of state side (item.Requirement slot) = option_and_then (requirement_firm state.vetoes side) (requirement_in state.plan slot)
-firm_of state side (item.Uncertain d) = option_and_then (duration_firm state.vetoes d side) (slice_get state.plan.uncertains d)
+-- an edge in the table of an item of the plan, none where there is no such item
+abbrev pub edge_in : State → EdgeKey → Item → Option Edge
+edge_in state key (item.Requirement slot) = option_and_then (λ r. requirement_edge state.vetoes r key) (requirement_in state.plan slot)
+edge_in state key (item.Uncertain d) = option_and_then (λ u. duration_edge state.vetoes d u key) (slice_get state.plan.uncertains d)
 
 -- the edge of a key, where it is there
 abbrev pub edge_of : State → EdgeKey → Option Edge
-edge_of state (Loose key) = loose_of state key.side key.item
-edge_of state (Firm key) = firm_of state key.side key.item
-edge_of state (Order d) = option_and_then (λ u. duration_order d) (slice_get state.plan.uncertains d)
+edge_of state key = edge_in state key (item_of key)
 
--- the edges of a requirement are active where its guard holds, and those of a duration everywhere
+-- the table of a requirement is active where its guard holds, and that of a duration everywhere
 abbrev pub is_active_item : Lists → List Pick → Item → Bool
 is_active_item plan picks (item.Requirement slot) = option_map_or (λ r. holds r.guard picks) (requirement_in plan slot) false
 is_active_item plan picks (item.Uncertain d) = true
 
 abbrev pub is_active_edge : Lists → List Pick → EdgeKey → Bool
-is_active_edge plan picks (Loose key) = is_active_item plan picks key.item
-is_active_edge plan picks (Firm key) = is_active_item plan picks key.item
-is_active_edge plan picks (Order d) = true
+is_active_edge plan picks key = is_active_item plan picks (item_of key)

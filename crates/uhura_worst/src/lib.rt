@@ -3,5 +3,6 @@
 //! `worst_case` says what they have to do with proposals.
 #![tactic(auto)]
 
+mod constraint;
 pub mod examples;
 pub mod worst_case;
