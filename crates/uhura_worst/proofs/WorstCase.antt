@@ -17,7 +17,8 @@ use Rattle.uhura_net.specs.Edges.{Keeps}
 use Rattle.uhura_net.proofs.Scaled.{scaled_parts}
 use Rattle.uhura_worst.specs.Proposal.{Proposal, loosened, narrowed, least_left, greatest_left, AreLeft, time_of, IsWithin, Meets}
 use Rattle.uhura_worst.specs.declared.constraint.Constraint.{Constraint}
-use Rattle.uhura_worst.specs.Edges.{between, requirement_constraint, duration_constraint, least_end, greatest_end, least_node, greatest_node}
+use Rattle.uhura_worst.specs.Nodes.{least_end, greatest_end, least_node, greatest_node}
+use Rattle.uhura_worst.specs.Edges.{between, requirement_constraint, duration_constraint}
 use Rattle.uhura_worst.specs.WorstCase.{loosened_edge, MeetsWorstCase, HasTimesOf, AreExtremes, LeavesRanges, extreme_times}
 
 -- a multiple of what has the other sign

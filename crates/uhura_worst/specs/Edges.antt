@@ -1,5 +1,5 @@
 -- The edges of the worst case: for each side of an item a constraint between two nodes, and the edges that stand for it.
-use Rattle.std.specs.Prelude.{ℕ, ◌+◌, ◌*◌, ℤ, pos, ◌+ℤ◌, neg_ℤ, Bool, true, false, List, Option, None, Some, option_map, option_and_then, slice_get}
+use Rattle.std.specs.Prelude.{ℕ, ℤ, pos, ◌+ℤ◌, neg_ℤ, Bool, true, false, List, Option, None, Some, option_map, option_and_then, slice_get}
 use Rattle.std.specs.Option.{option_map_or}
 use Rattle.uhura_plan.specs.declared.key.Side.{Side}
 use Rattle.uhura_plan.specs.declared.key.Side.TheVariants.{Lower, Upper}
@@ -8,7 +8,6 @@ use Rattle.uhura_plan.specs.declared.key.Item.TheVariants as item
 use Rattle.uhura_plan.specs.declared.key.EdgeKey.{EdgeKey}
 use Rattle.uhura_plan.specs.declared.key.EdgeKey.TheVariants.{Loose, Firm, Order}
 use Rattle.uhura_plan.specs.declared.key.EventRef.{EventRef}
-use Rattle.uhura_plan.specs.declared.key.EventRef.TheVariants.{Controllable, End}
 use Rattle.uhura_plan.specs.declared.requirement.Requirement.{Requirement}
 use Rattle.uhura_plan.specs.declared.uncertain.Uncertain.{Uncertain}
 use Rattle.uhura_plan.specs.Lists.{Lists}
@@ -16,28 +15,13 @@ use Rattle.uhura_plan.specs.Find.{requirement_in}
 use Rattle.uhura_choice.specs.declared.prefix.Pick.{Pick}
 use Rattle.uhura_choice.specs.Branch.{holds}
 use Rattle.uhura_net.specs.declared.edge.Edge.{Edge}
+use Rattle.uhura_worst.specs.Nodes.{least_end, greatest_end, least_node, greatest_node}
 use Rattle.uhura_worst.specs.declared.constraint.Constraint.{Constraint}
 use Rattle.uhura_veto.specs.declared.veto.Veto.{Veto}
 use Rattle.uhura_veto.specs.declared.room.Room.{Room}
 use Rattle.uhura_veto.specs.declared.room.Room.TheVariants.{Units, Unlimited}
 use Rattle.uhura_veto.specs.State.{State}
 use Rattle.uhura_veto.specs.Room.{requirement_room, duration_room, loosening_rate, rate_of}
-
--- the nodes of the least and of the greatest end of the duration in place d
-abbrev pub least_end : ℕ → ℕ
-least_end d = 512 + 2 * d
-
-abbrev pub greatest_end : ℕ → ℕ
-greatest_end d = 513 + 2 * d
-
--- a controllable event is a node itself, and the end of a duration is read at its least or at its greatest
-abbrev pub least_node : EventRef → ℕ
-least_node (Controllable e) = e
-least_node (End d) = least_end d
-
-abbrev pub greatest_node : EventRef → ℕ
-greatest_node (Controllable e) = e
-greatest_node (End d) = greatest_end d
 
 -- the event `to` comes at most `bound` after the event `from`, however late the one and however early the other
 abbrev pub between : EventRef → EventRef → ℤ → Constraint

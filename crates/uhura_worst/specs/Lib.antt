@@ -2,6 +2,7 @@ pub mod Proposal
 pub mod Allowed
 pub mod Cost
 pub mod Best
+pub mod Nodes
 pub mod Edges
 pub mod WorstCase
 pub mod Units

@@ -10,7 +10,8 @@ use Rattle.uhura_net.specs.declared.edge.Edge.{Edge}
 use Rattle.uhura_net.specs.Edges.{Keeps}
 use Rattle.uhura_worst.specs.Proposal.{Proposal, loosened, narrowed, least_left, greatest_left}
 use Rattle.uhura_worst.specs.declared.constraint.Constraint.{Constraint}
-use Rattle.uhura_worst.specs.Edges.{requirement_constraint, duration_constraint, order_constraint, least_end, greatest_end, firm_capacity}
+use Rattle.uhura_worst.specs.Edges.{requirement_constraint, duration_constraint, order_constraint, firm_capacity}
+use Rattle.uhura_worst.specs.Nodes.{least_end, greatest_end}
 
 -- the edge of a constraint at scale k that is loosened by so many units: its bound is k times the stated one, and the
 -- units

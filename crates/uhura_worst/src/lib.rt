@@ -5,4 +5,5 @@
 
 mod constraint;
 pub mod examples;
+mod node;
 pub mod worst_case;
