@@ -1,3 +1,4 @@
 mod Single
 mod CappedDrive
+pub mod SoundItems
 mod WorstCase

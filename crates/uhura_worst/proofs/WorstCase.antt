@@ -1,10 +1,9 @@
 -- The worst case, both ways.
-use Rattle.std.proofs.Common.{rules, ◌≡◌, ◌≢◌, ℕ, zero, suc, ◌<◌, Bool, true, false, List, [], ◌∷◌, length, Option, None, Some, option_map, slice_get, unwrap_or, IfSome, Contains, refl, sym, ap, subst, arith, eqb}
+use Rattle.std.proofs.Common.{rules, ◌≡◌, ◌≢◌, ℕ, zero, suc, ◌<◌, Bool, true, false, List, [], ◌∷◌, length, Option, None, Some, option_map, slice_get, unwrap_or, IfSome, refl, sym, ap, subst, arith, eqb}
 use Rattle.std.specs.Prelude.{ℤ, pos, negsuc, neg_ℤ, ◌+ℤ◌, ◌-ℤ◌, ◌*ℤ◌, ◌≤ℤ◌, nat_eq}
 use Rattle.std.specs.Option.{option_map_or}
 use Rattle.std.proofs.lemmas.Int.{ints}
 use Rattle.std.proofs.lemmas.Bool.Decides.{Decides-eqb}
-use Rattle.std.proofs.lemmas.Option.{slice_get_within, get_or_from_slice_get}
 use Rattle.uhura_plan.specs.declared.key.Side.{Side}
 use Rattle.uhura_plan.specs.declared.key.Side.TheVariants.{Lower, Upper}
 use Rattle.uhura_plan.specs.declared.key.EventRef.{EventRef}
@@ -12,9 +11,10 @@ use Rattle.uhura_plan.specs.declared.key.EventRef.TheVariants.{Controllable, End
 use Rattle.uhura_plan.specs.declared.requirement.Requirement.{Requirement}
 use Rattle.uhura_plan.specs.declared.uncertain.Uncertain.{Uncertain}
 use Rattle.uhura_plan.specs.Lists.{Lists}
-use Rattle.uhura_plan.specs.Sound.{IsSound, IsSoundUncertain, IsSoundRequirement, IsEventAmong}
+use Rattle.uhura_plan.specs.Sound.{IsSound, IsSoundRequirement, IsEventAmong}
 use Rattle.uhura_net.specs.Edges.{Keeps}
 use Rattle.uhura_net.proofs.Scaled.{scaled_parts}
+use Rattle.uhura_worst.proofs.SoundItems.{sound_uncertain, sound_requirement}
 use Rattle.uhura_worst.specs.Proposal.{Proposal, loosened, narrowed, least_left, greatest_left, AreLeft, time_of, IsWithin, Meets}
 use Rattle.uhura_worst.specs.declared.constraint.Constraint.{Constraint}
 use Rattle.uhura_worst.specs.Nodes.{least_end, greatest_end, least_node, greatest_node}
@@ -42,15 +42,6 @@ element_at : {X : Type 0} (xs : List X) (i : ℕ) → i < length xs → (x : X) 
 element_at [] i below = absurd (omega (arith, below))
 element_at (x ∷ xs) zero below = (x, refl)
 element_at (x ∷ xs) (suc i) below = element_at xs i (omega (arith, below))
-
--- a duration of a sound plan is sound
-pub sound_uncertain : (plan : Lists) (d : ℕ) (u : Uncertain) → IsSound plan → slice_get plan.uncertains d ≡ Some u → IsSoundUncertain (length plan.events) u
-sound_uncertain plan d u sound is =
-    subst (IsSoundUncertain (length plan.events)) (get_or_from_slice_get plan.uncertains d u u is) (sound.uncertains d u (slice_get_within plan.uncertains d u is))
-
--- and so is a requirement
-pub sound_requirement : (plan : Lists) (r : Requirement) → IsSound plan → Contains plan.requirements r → IsSoundRequirement plan r
-sound_requirement plan r sound (place, below, is) = subst (IsSoundRequirement plan) is (sound.requirements place r below)
 
 -- the time of an end
 time_of-end : (plan : Lists) (q : Proposal) (durations : ℕ → ℤ) (d : ℕ) (u : Uncertain) → slice_get plan.uncertains d ≡ Some u → time_of plan q durations (End d) ≡ (q.times u.start +ℤ durations d)

@@ -1,5 +1,5 @@
 -- The edges of the worst case: for each side of an item a constraint between two nodes, and the edges that stand for it.
-use Rattle.std.specs.Prelude.{ℕ, ℤ, pos, ◌+ℤ◌, neg_ℤ, Bool, true, false, List, Option, None, Some, option_map, option_and_then, slice_get}
+use Rattle.std.specs.Prelude.{ℕ, ◌≢◌, ◌<◌, ℤ, pos, ◌+ℤ◌, neg_ℤ, Bool, true, false, List, Option, None, Some, option_map, option_and_then, slice_get}
 use Rattle.std.specs.Option.{option_map_or}
 use Rattle.uhura_plan.specs.declared.key.Side.{Side}
 use Rattle.uhura_plan.specs.declared.key.Side.TheVariants.{Lower, Upper}
@@ -11,6 +11,7 @@ use Rattle.uhura_plan.specs.declared.key.EventRef.{EventRef}
 use Rattle.uhura_plan.specs.declared.requirement.Requirement.{Requirement}
 use Rattle.uhura_plan.specs.declared.uncertain.Uncertain.{Uncertain}
 use Rattle.uhura_plan.specs.Lists.{Lists}
+use Rattle.uhura_plan.specs.Limits.{IsBound}
 use Rattle.uhura_plan.specs.Find.{requirement_in}
 use Rattle.uhura_choice.specs.declared.prefix.Pick.{Pick}
 use Rattle.uhura_choice.specs.Branch.{holds}
@@ -41,6 +42,13 @@ duration_constraint Upper d u = record { from = greatest_end d; to = u.start; bo
 -- its least end comes no later than its greatest
 abbrev pub order_constraint : ℕ → Constraint
 order_constraint d = record { from = greatest_end d; to = least_end d; bound = pos 0 }
+
+-- a constraint between two nodes that differ, with a bound from -1,000,000,000 to 1,000,000,000
+pub record IsSoundConstraint (c : Constraint) : Type 0 where
+  pub from : c.from < 1024
+  pub to : c.to < 1024
+  pub apart : c.from ≢ c.to
+  pub bound : IsBound c.bound
 
 -- the capacity of an edge that stands for no price
 abbrev pub firm_capacity : ℕ

@@ -1,10 +1,12 @@
 //! What a side says of two nodes, and the edges that stand for it.
-ghost use Rattle.std.specs.Prelude.{◌≡◌, ◌<◌, IfSome};
-ghost use Rattle.uhura_plan.specs.Limits.{IsBound};
+ghost use Rattle.std.specs.Prelude.{◌≡◌, ℕ, ◌<◌, true, false, IfSome};
+ghost use Rattle.uhura_plan.specs.Limits.{IsRate};
 ghost use Rattle.uhura_plan.specs.Sound.{IsSoundUncertain};
+ghost use Rattle.uhura_net.specs.Place.{is_loose};
+ghost use Rattle.uhura_net.specs.Table.{IsEdgeFor};
 ghost use Rattle.uhura_veto.specs.Room.{IsSoundRoom};
 ghost use Rattle.uhura_worst.specs.Nodes.{HasNode, HasNodes};
-ghost use Rattle.uhura_worst.specs.Edges.{between, requirement_constraint, duration_constraint, order_constraint, loose_edge, firm_edge};
+ghost use Rattle.uhura_worst.specs.Edges.{between, requirement_constraint, duration_constraint, order_constraint, loose_edge, firm_edge, IsSoundConstraint};
 
 use crate::node::{greatest_end, greatest_node, least_end, least_node};
 use uhura_net::Edge;
@@ -27,7 +29,7 @@ impl Constraint {
     pub(crate) fn of_requirement(side: Side, requirement: &Requirement) -> Option<Constraint>
         requires { HasNodes requirement.now }
         ensures constraint { result ≡ requirement_constraint side requirement.now }
-        ensures bound { IfSome result (λ c. IsBound c.bound) }
+        ensures sound { IfSome result IsSoundConstraint }
     {
         match side {
             Side::Lower => match requirement.lower.bound {
@@ -46,7 +48,7 @@ impl Constraint {
         requires place { duration < 256 }
         requires sound { IsSoundUncertain 512 uncertain.now }
         ensures constraint { result ≡ duration_constraint side duration uncertain.now }
-        ensures bound { IsBound result.bound }
+        ensures sound { IsSoundConstraint result }
     {
         match side {
             Side::Lower => Constraint {
@@ -65,7 +67,8 @@ impl Constraint {
     /// The least end of the duration in this place comes no later than its greatest.
     pub(crate) fn of_order(duration: u32) -> Constraint
         requires { duration < 256 }
-        ensures { result ≡ order_constraint duration }
+        ensures constraint { result ≡ order_constraint duration }
+        ensures sound { IsSoundConstraint result }
     {
         Constraint {
             from: greatest_end(duration),
@@ -89,7 +92,9 @@ impl Constraint {
 
     /// The edge of the constraint as stated, there where it has a price.
     pub(crate) fn loose(self, price: Option<u32>) -> Option<Edge>
-        ensures { result ≡ loose_edge price self }
+        requires { IsSoundConstraint self }
+        ensures edge { result ≡ loose_edge price self }
+        ensures fits { (place : ℕ) → is_loose place ≡ true → IfSome price IsRate → IfSome result (IsEdgeFor place) }
     {
         match price {
             Some(rate) => Some(Edge {
@@ -104,9 +109,10 @@ impl Constraint {
 
     /// The edge of the constraint moved by the room, there where that is a number.
     pub(crate) fn firm(self, room: Room) -> Option<Edge>
-        requires bound { IsBound self.bound }
+        requires constraint { IsSoundConstraint self }
         requires room { IsSoundRoom room }
-        ensures { result ≡ firm_edge room self }
+        ensures edge { result ≡ firm_edge room self }
+        ensures fits { (place : ℕ) → is_loose place ≡ false → IfSome result (IsEdgeFor place) }
     {
         match room {
             Room::Units(most) => Some(Edge {

@@ -4,6 +4,9 @@
 #![tactic(auto)]
 
 mod constraint;
+mod edges;
 pub mod examples;
 mod node;
 pub mod worst_case;
+
+pub use edges::edge;
