@@ -1,4 +1,6 @@
 mod Single
 mod CappedDrive
+mod Puts
+mod FirstItems
 pub mod SoundItems
 mod WorstCase

@@ -4,6 +4,7 @@ pub mod Cost
 pub mod Best
 pub mod Nodes
 pub mod Edges
+pub mod Filled
 pub mod WorstCase
 pub mod Units
 pub mod Examples

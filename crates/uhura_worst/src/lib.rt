@@ -6,7 +6,9 @@
 mod constraint;
 mod edges;
 pub mod examples;
+mod filling;
 mod node;
 pub mod worst_case;
 
 pub use edges::edge;
+pub use filling::fill;
