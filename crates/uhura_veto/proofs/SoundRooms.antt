@@ -12,7 +12,7 @@ use Rattle.uhura_veto.specs.Vetoes.{IsSoundVeto}
 use Rattle.uhura_veto.specs.Room.{is_same_key, caps_on, least_of, least_with, IsSoundRoom}
 
 -- the least of some numbers is at most the first
-fold-min_le : (x : ℕ) (xs : List ℕ) → fold min x xs ≤ x
+pub fold-min_le : (x : ℕ) (xs : List ℕ) → fold min x xs ≤ x
 fold-min_le x [] = omega arith
 fold-min_le x (y ∷ xs) = omega (arith, fold-min_le (min x y) xs)
 

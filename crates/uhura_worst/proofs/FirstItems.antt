@@ -1,16 +1,17 @@
 -- A table of the first items of a state, one item after another.
-use Rattle.std.proofs.Common.{◌≡◌, ◌≢◌, ℕ, zero, suc, ◌+◌, ◌<◌, Bool, true, false, true≢false, List, [], ◌∷◌, ◌++◌, length, take, get_or, Option, None, Some, slice_get, Contains, AllPairs, refl, sym, ap, subst, ◌∙◌, arith, length-take-le}
+use Rattle.std.proofs.Common.{◌≡◌, ◌≢◌, ℕ, zero, suc, ◌+◌, ◌<◌, Bool, true, false, true≢false, List, [], ◌∷◌, ◌++◌, length, take, get_or, Option, None, Some, slice_get, Contains, AllPairs, refl, sym, ap, subst, ◌∙◌, arith, length-take-le, drop, take-append-drop}
 use Rattle.std.specs.Prelude.{find, if◌then◌else◌, nat_eq, cond, option_map, option_and_then, ◌==◌}
 use Rattle.std.specs.Option.{option_or}
 use Rattle.std.proofs.lemmas.Bool.Decides.{Decides-eqb}
 use Rattle.std.proofs.lemmas.List.{take_more, length-map, get_or-take, get_or-map}
 use Rattle.std.proofs.lemmas.List.Folds.{find-append}
-use Rattle.std.proofs.lemmas.Option.{slice_get_within, get_or_from_slice_get, slice_get-map}
+use Rattle.std.proofs.lemmas.Option.{slice_get_within, get_or_from_slice_get, slice_get-map, slice_get-get_or}
 use Rattle.uhura_plan.specs.declared.key.Item.{Item}
 use Rattle.uhura_plan.specs.declared.key.Item.TheVariants as item
 use Rattle.uhura_plan.specs.declared.requirement.Requirement.{Requirement}
 use Rattle.uhura_plan.specs.declared.uncertain.Uncertain.{Uncertain}
-use Rattle.uhura_plan.specs.Lists.{slots}
+use Rattle.uhura_plan.specs.Lists.{Lists, slots}
+use Rattle.uhura_plan.specs.Find.{requirement_in}
 use Rattle.uhura_net.specs.declared.edge.Edge.{Edge}
 use Rattle.uhura_veto.specs.State.{State}
 use Rattle.uhura_veto.specs.Room.{is_same_item}
@@ -65,6 +66,17 @@ chosen_requirement requirements i slot r distinct is =
     by : (b : Bool) → nat_eq r.slot slot ≡ b → option_or (find (λ (q : Requirement). q.slot == slot) (take i requirements)) (cond b (Some r) None) ≡ (if b then Some r else find (λ (q : Requirement). q.slot == slot) (take i requirements))
     by true same = ap (λ (o : Option Requirement). option_or o (Some r)) (none_before requirements i slot r distinct is ((Decides-eqb r.slot slot).0 same))
     by false other = or_none (find (λ (q : Requirement). q.slot == slot) (take i requirements))
+
+-- a requirement is the one in its slot
+pub requirement_in-member : (plan : Lists) (r : Requirement) → AllPairs ◌≢◌ (slots plan.requirements) → Contains plan.requirements r → requirement_in plan r.slot ≡ Some r
+requirement_in-member plan r distinct (i, below, is) =
+    let there : slice_get plan.requirements i ≡ Some r = slice_get-get_or plan.requirements i r below ∙ ap (λ (q : Requirement). Some q) is in
+    let itself : nat_eq r.slot r.slot ≡ true = (Decides-eqb r.slot r.slot).1 refl in
+    let first : find (λ (q : Requirement). q.slot == r.slot) (take (i + 1) plan.requirements) ≡ Some r =
+    chosen_requirement plan.requirements i r.slot r distinct there ∙ ap (λ (b : Bool). if b then Some r else find (λ (q : Requirement). q.slot == r.slot) (take i plan.requirements)) itself in
+    ap (find (λ (q : Requirement). q.slot == r.slot)) (sym (take-append-drop (i + 1) plan.requirements))
+    ∙ find-append (λ (q : Requirement). q.slot == r.slot) (take (i + 1) plan.requirements) (drop (i + 1) plan.requirements)
+    ∙ ap (λ (o : Option Requirement). option_or o (find (λ (q : Requirement). q.slot == r.slot) (drop (i + 1) plan.requirements))) first
 
 -- one requirement more
 pub IsTableOf-next_requirement : (state : State) (i : ℕ) (r : Requirement) (old new : List (Option Edge)) → AllPairs ◌≢◌ (slots state.plan.requirements) → slice_get state.plan.requirements i ≡ Some r →

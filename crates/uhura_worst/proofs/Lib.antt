@@ -4,3 +4,5 @@ mod Puts
 mod FirstItems
 pub mod SoundItems
 mod WorstCase
+mod FirmEdges
+mod PassedUnits
