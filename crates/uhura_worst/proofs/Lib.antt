@@ -6,3 +6,4 @@ pub mod SoundItems
 mod WorstCase
 mod FirmEdges
 mod PassedUnits
+mod Pairs

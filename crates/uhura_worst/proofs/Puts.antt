@@ -67,7 +67,7 @@ itself_item : (a : Item) → is_same_item a a ≡ true
 itself_item (Requirement a) = (Decides-eqb a a).1 refl
 itself_item (Uncertain a) = (Decides-eqb a a).1 refl
 
-itself_key : (a : SideKey) → is_same_key a a ≡ true
+pub itself_key : (a : SideKey) → is_same_key a a ≡ true
 itself_key a = rw (itself_item a.item, itself_side a.side) refl
 
 itself_edge : (a : EdgeKey) → is_same_edge a a ≡ true

@@ -7,8 +7,10 @@ mod constraint;
 mod edges;
 pub mod examples;
 mod filling;
+mod loosening;
 mod node;
 pub mod worst_case;
 
 pub use edges::edge;
 pub use filling::fill;
+pub use loosening::Loosening;
