@@ -1,5 +1,5 @@
 -- Balanced units cancel whatever each node is given.
-use Rattle.std.proofs.Common.{◌≡◌, ℕ, ◌+◌, ◌*◌, ◌<◌, ◌≤◌, Bool, true, false, cond, eqb, refl, ap, ◌∙◌, sym, arith}
+use Rattle.std.proofs.Common.{◌≡◌, ℕ, ◌+◌, ◌*◌, ◌<◌, Bool, true, false, cond, eqb, refl, ap, ◌∙◌, sym, arith}
 use Rattle.uhura_net.specs.Sums.{sum_below}
 use Rattle.uhura_net.proofs.Sums.{sum_below-same, term_le, sum_below-times, sum_below-exchange, sum_below-single}
 

@@ -1,5 +1,5 @@
 -- A table without an edge.
-use Rattle.std.proofs.Common.{◌≡◌, ℕ, zero, suc, List, get_or, length, replicate, Option, None, Some, IfSome, refl, sym, ap, subst, ◌∙◌}
+use Rattle.std.proofs.Common.{◌≡◌, ℕ, zero, suc, List, get_or, length, replicate, Option, None, IfSome, refl, sym, ap, subst, ◌∙◌}
 use Rattle.std.proofs.lemmas.List.{length-replicate}
 use Rattle.uhura_net.specs.declared.edge.Edge.{Edge}
 use Rattle.uhura_net.specs.Table.{IsTable, IsEdgeFor}

@@ -1,7 +1,8 @@
 -- Laws of sums.
-use Rattle.std.proofs.Common.{◌≡◌, ℕ, zero, suc, ◌+◌, ◌*◌, ◌<◌, ◌≤◌, Bool, true, false, cond, eqb, refl, ap, ◌∙◌, sym, inl, inr, arith}
+use Rattle.std.proofs.lemmas.Int.{ints}
+use Rattle.std.proofs.Common.{◌≡◌, ℕ, zero, suc, ◌+◌, ◌*◌, ◌<◌, ◌≤◌, true, false, cond, eqb, ℤ, pos, ◌+ℤ◌, refl, ap, ◌∙◌, sym, inl, inr, arith}
 use Rattle.std.proofs.lemmas.Bool.{cases_eq, cases_lt, eq-eqb, ne_eqb}
-use Rattle.uhura_net.specs.Sums.{sum_below}
+use Rattle.uhura_net.specs.Sums.{sum_below, int_sum_below}
 
 -- equal terms have equal sums
 pub sum_below-same : (n : ℕ) (f g : ℕ → ℕ) → ((i : ℕ) → i < n → f i ≡ g i) → sum_below n f ≡ sum_below n g
@@ -70,3 +71,22 @@ sum_below-single (suc n) at f inside =
           let elsewhere : eqb at n ≡ false = ne_eqb at n apart in
           rw elsewhere (omega (arith, sum_below-single n at f (omega arith)))
     ]
+
+-- a sum of integers that are natural numbers
+pub int_sum_below-naturals : (n : ℕ) (f : ℕ → ℕ) → int_sum_below n (λ i. pos (f i)) ≡ pos (sum_below n f)
+unfolding sum_below int_sum_below
+int_sum_below-naturals zero f = refl
+int_sum_below-naturals (suc n) f = ap (λ (z : ℤ). z +ℤ pos (f n)) (int_sum_below-naturals n f)
+
+-- equal integers have equal sums
+pub int_sum_below-same : (n : ℕ) (f g : ℕ → ℤ) → ((i : ℕ) → i < n → f i ≡ g i) → int_sum_below n f ≡ int_sum_below n g
+unfolding int_sum_below
+int_sum_below-same zero f g same = refl
+int_sum_below-same (suc n) f g same =
+    ap (λ (z : ℤ). z +ℤ f n) (int_sum_below-same n f g (λ i inside. same i (omega arith))) ∙ ap (λ (z : ℤ). int_sum_below n g +ℤ z) (same n (omega arith))
+
+-- the sum of the sums of two functions
+pub int_sum_below-plus : (n : ℕ) (f g : ℕ → ℤ) → int_sum_below n (λ i. f i +ℤ g i) ≡ int_sum_below n f +ℤ int_sum_below n g
+unfolding int_sum_below
+int_sum_below-plus zero f g = refl
+int_sum_below-plus (suc n) f g = omega (arith, ints, int_sum_below-plus n f g)

@@ -4,3 +4,4 @@ pub mod Edges
 pub mod Walk
 pub mod Sums
 pub mod Circulation
+pub mod Optimal
