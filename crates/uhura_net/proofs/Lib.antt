@@ -3,8 +3,12 @@ pub mod Clones
 mod Duality
 mod Empty
 mod Firm
+mod Moves
 mod Paying
+mod Prices
+mod Pushing
 mod Rows
 mod Scaled
+mod Setting
 mod Sums
 mod Walks

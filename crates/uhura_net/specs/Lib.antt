@@ -5,3 +5,5 @@ pub mod Walk
 pub mod Sums
 pub mod Circulation
 pub mod Optimal
+pub mod Residual
+pub mod Net
