@@ -1,5 +1,5 @@
 -- A table and a net without an edge.
-use Rattle.std.proofs.Common.{◌≡◌, ℕ, zero, suc, List, get_or, length, replicate, Option, None, IfSome, refl, sym, ap, subst, ◌∙◌, Bool, true, false, cond, eqb, ◌≤◌, arith}
+use Rattle.std.proofs.Common.{◌≡◌, ℕ, zero, suc, List, get_or, length, replicate, Option, None, IfSome, refl, sym, ap, subst, ◌∙◌, Bool, true, false, cond, eqb, arith}
 use Rattle.std.proofs.lemmas.List.{length-replicate}
 use Rattle.uhura_net.specs.declared.edge.Edge.{Edge}
 use Rattle.uhura_net.specs.Table.{IsTable, IsEdgeFor}

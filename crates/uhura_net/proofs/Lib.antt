@@ -1,5 +1,6 @@
 mod Cancelling
 pub mod Clones
+mod Cycles
 mod Duality
 mod Empty
 mod Firm

@@ -1,12 +1,11 @@
 -- What a push does to a weighed sum.
-use Rattle.std.proofs.Common.{◌≡◌, ◌≢◌, ℕ, zero, suc, ◌+◌, ◌*◌, ◌<◌, ◌≤◌, Bool, true, false, cond, eqb, ℤ, pos, ◌+ℤ◌, ◌-ℤ◌, ◌≤ℤ◌, List, [], ◌∷◌, length, get_or, refl, sym, ap, subst, ◌∙◌, inl, inr, arith}
+use Rattle.std.proofs.Common.{◌≡◌, ◌≢◌, ℕ, zero, suc, ◌+◌, ◌<◌, Bool, true, false, cond, eqb, ℤ, pos, ◌+ℤ◌, List, [], ◌∷◌, length, refl, sym, ap, ◌∙◌, inl, inr, arith}
 use Rattle.std.specs.Prelude.{◌*ℤ◌, neg_ℤ}
 use Rattle.std.specs.List.{All, IsDistinct}
 use Rattle.std.proofs.lemmas.Int.{ints}
 use Rattle.std.proofs.lemmas.Bool.{cases_eq, eq-eqb, ne_eqb}
 use Rattle.std.proofs.lemmas.List.Elements.{All-head, All-tail}
 use Rattle.std.proofs.lemmas.Map.Keys.{IsDistinct-tail}
-use borrow.Author.Differences.{up, down}
 use Rattle.uhura_net.specs.declared.edge.Edge.{Edge}
 use Rattle.uhura_net.specs.declared.place.Place.{Place}
 use Rattle.uhura_net.specs.Edges.{Edges, edge_at}
@@ -23,7 +22,7 @@ pub record IsOdd (weight : Edge → ℤ) : Type 0 where
   pub backward : (edge : Edge) (units : ℕ) → weight (residual_edge edge units true) ≡ neg_ℤ (weight edge)
 
 -- what the edges of a walk weigh together
-pub weights_of : (Edge → ℤ) → List Edge → ℤ
+unfoldable pub weights_of : (Edge → ℤ) → List Edge → ℤ
 weights_of weight [] = pos 0
 weights_of weight (edge ∷ walk) = weight edge +ℤ weights_of weight walk
 
@@ -74,7 +73,7 @@ unfolding first_moved
 first_moved-other at place before after other = rw (ne_eqb place at other) refl
 
 -- a place that isn't the first one, and none behind it
-none_cons : (place : Place) (places : List Place) (at : ℕ) → place.0 ≢ at → ((step : ℕ) → step < length places → place_at places step ≢ at) →
+pub none_cons : (place : Place) (places : List Place) (at : ℕ) → place.0 ≢ at → ((step : ℕ) → step < length places → place_at places step ≢ at) →
     (step : ℕ) → step < length (place ∷ places) → place_at (place ∷ places) step ≢ at
 none_cons place places at first rest zero inside = first
 none_cons place places at first rest (suc step) inside = rest step (omega arith)
@@ -113,5 +112,12 @@ pushed_weight n edges seen weight amount (place ∷ places) (back ∷ backward) 
     let first = weighed_at n edges before mid weight place.0 within (λ at other. first_moved-other place.0 at before after other) in
     let here = ap (λ u. pos u *ℤ weight (edge_at edges place.0)) (first_moved-here place.0 place.0 before after refl) in
     let moved = moved_weight amount back (before place.0) (after place.0) (seen place.0) (edge_at edges place.0) weight odd (pushed.moved 0 (omega arith)) in
-    omega (arith, ints, rest, first, here, moved,
-    scaled-plus amount (weight (residual_edge (edge_at edges place.0) (seen place.0) back)) (weights_of weight (residual_walk edges seen places backward)))
+    omega (
+      arith,
+      ints,
+      rest,
+      first,
+      here,
+      moved,
+      scaled-plus amount (weight (residual_edge (edge_at edges place.0) (seen place.0) back)) (weights_of weight (residual_walk edges seen places backward)),
+    )

@@ -1,10 +1,9 @@
 -- An edge that takes over the units of a place leaves a circulation.
-use Rattle.std.proofs.Common.{◌≡◌, ◌≢◌, ℕ, ◌<◌, ◌≤◌, ◌⊎◌, Bool, true, false, cond, eqb, List, length, get_or, set, Option, None, Some, IfSome, unwrap_or, refl, sym, ap, subst, ◌∙◌, inl, inr, arith}
+use Rattle.std.proofs.Common.{◌≡◌, ℕ, ◌<◌, ◌≤◌, ◌⊎◌, Bool, true, false, cond, eqb, length, get_or, set, Option, None, IfSome, unwrap_or, refl, sym, ap, subst, ◌∙◌, inl, inr, arith}
 use Rattle.std.proofs.lemmas.Bool.{cases_eq}
 use Rattle.std.proofs.lemmas.List.{length-set, get_or-set_same, get_or-set_other}
 use Rattle.uhura_net.specs.declared.edge.Edge.{Edge}
 use Rattle.uhura_net.specs.Edges.{Edges, no_edge, edge_at}
-use Rattle.uhura_net.specs.Sums.{sum_below}
 use Rattle.uhura_net.specs.Circulation.{Units, edges_of, units_of, IsCirculation}
 use Rattle.uhura_net.specs.Net.{Carried, IsNetEdge, IsNet, CanTakeOver, MayBeSet}
 use Rattle.uhura_net.proofs.Sums.{sum_below-same}

@@ -1,7 +1,7 @@
-use Rattle.std.proofs.Common.{◌≡◌, ℕ, ◌<◌, ◌≤◌, ◌+◌, ◌-◌, ◌^◌, Bool, true, false, length, refl, sym, subst, arith, Fits, w64}
+use Rattle.std.proofs.Common.{ℕ, ◌<◌, ◌≤◌, ◌+◌, ◌-◌, ◌^◌, Bool, true, false, length, refl, sym, subst, arith}
 use Rattle.uhura_net.specs.Circulation.{units_of}
 use Rattle.uhura_net.specs.Residual.{place_at, IsMoved}
-use Rattle.uhura_net.proofs.Moves.{room_backward, room_forward, IsMovedSoFar-more, next_unmoved}
+use Rattle.uhura_net.proofs.Moves.{room_backward, room_forward, IsMovedSoFar-more}
 use Rattle.uhura_net.proofs.moving.move_units.Goals as goal
 use Rattle.uhura_net.proofs.moving.move_units.Goals.{then-backward-step, else-backward-step}
 

@@ -1,4 +1,3 @@
-use Rattle.std.proofs.Common.{◌≡◌}
 use Rattle.uhura_net.proofs.Prices.{IsPriceSoFar}
 use Rattle.uhura_net.proofs.pricing.price.Given as goal
 

@@ -1,4 +1,3 @@
-use Rattle.std.proofs.Common.{◌≡◌, ℕ, replicate, None}
 use Rattle.uhura_net.proofs.Clones.{none_alone}
 use Rattle.uhura_net.proofs.Empty.{IsNet-empty, net-empty}
 use Rattle.uhura_net.proofs.net.Net.new.Goals as goal

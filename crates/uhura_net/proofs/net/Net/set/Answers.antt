@@ -1,4 +1,4 @@
-use Rattle.std.proofs.Common.{◌≡◌, sym, subst}
+use Rattle.std.proofs.Common.{sym, subst}
 use Rattle.uhura_net.specs.Net.{Carried, MayBeSet}
 use Rattle.uhura_net.proofs.Setting.{IsNet-set}
 use Rattle.uhura_net.proofs.net.Net.set.Goals as goal
