@@ -75,7 +75,7 @@ keeps_firm None false times meets firm = omega (arith, ints)
 keeps_firm (Some edge) false times meets firm = meets edge refl
 
 -- a firm edge is there, at a place that isn't loose
-firm_there : (at : Option Edge) (loose : Bool) (edge : Edge) → cond loose None at ≡ Some edge → (loose ≡ false) × (unwrap_or at no_edge ≡ edge)
+pub firm_there : (at : Option Edge) (loose : Bool) (edge : Edge) → cond loose None at ≡ Some edge → (loose ≡ false) × (unwrap_or at no_edge ≡ edge)
 firm_there at true edge is = absurd (let no : ⊥ = cc in no)
 firm_there at false edge is = (refl, ap (λ e. unwrap_or e no_edge) is)
 

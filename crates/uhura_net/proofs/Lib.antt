@@ -5,6 +5,7 @@ mod Duality
 mod Empty
 mod Firm
 mod Moves
+mod Outweighing
 mod Paying
 mod Prices
 mod Pushing

@@ -16,6 +16,12 @@ unfolding sum_below
 sum_below-le zero f g less = omega arith
 sum_below-le (suc n) f g less = omega (arith, sum_below-le n f g (λ i inside. less i (omega arith)), less n (omega arith))
 
+-- terms that are at most a number sum to at most its multiple
+pub sum_below-most : (n most : ℕ) (f : ℕ → ℕ) → ((i : ℕ) → i < n → f i ≤ most) → sum_below n f ≤ n * most
+unfolding sum_below
+sum_below-most zero most f less = omega arith
+sum_below-most (suc n) most f less = omega (arith, sum_below-most n most f (λ i inside. less i (omega arith)), less n (omega arith))
+
 -- no term is above the sum
 pub term_le : (n : ℕ) (f : ℕ → ℕ) (i : ℕ) → i < n → f i ≤ sum_below n f
 unfolding sum_below

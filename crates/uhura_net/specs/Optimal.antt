@@ -2,6 +2,7 @@
 use Rattle.std.specs.Prelude.{ℕ, suc, ◌*◌, ◌<◌, ◌≤◌, ◌≡◌, ℤ, pos, negsuc, ◌-ℤ◌, ◌≤ℤ◌, None, Some, if◌then◌else◌}
 use Rattle.uhura_net.specs.declared.edge.Edge.{Edge}
 use Rattle.uhura_net.specs.Place.{is_loose}
+use Rattle.uhura_net.specs.Table.{IsEdgeFor}
 use Rattle.uhura_net.specs.Edges.{Edges, edge_at}
 use Rattle.uhura_net.specs.Sums.{sum_below}
 use Rattle.uhura_net.specs.Circulation.{Units}
@@ -47,3 +48,7 @@ pub record OutweighsLoose (places : ℕ) (edges : Edges) (place : ℕ) (edge : E
 
 abbrev pub FirmOutweighLoose : ℕ → Edges → Type 0
 FirmOutweighLoose places edges = (place : ℕ) (edge : Edge) → firm_edges edges place ≡ Some edge → OutweighsLoose places edges place edge
+
+-- each edge is at one of the places, and may stand there
+abbrev pub ArePlaced : Edges → Type 0
+ArePlaced edges = (place : ℕ) (edge : Edge) → edges place ≡ Some edge → (place < 9472) × IsEdgeFor place edge

@@ -9,7 +9,7 @@ ghost use Rattle.uhura_net.specs.Edges.{Edges, edge_at, KeepsAt, MeetsAt, Meets}
 ghost use Rattle.uhura_net.specs.Walk.{IsClosedWalk, bounds_of, IsNegativeWalk};
 ghost use Rattle.uhura_net.specs.Sums.{sum_below, int_sum_below};
 ghost use Rattle.uhura_net.specs.Circulation.{Units, IsBalanced, IsCirculation, weighed, value_of, KeepsWithin};
-ghost use Rattle.uhura_net.specs.Optimal.{IsOptimal, firm_edges, loose_excess, FirmOutweighLoose};
+ghost use Rattle.uhura_net.specs.Optimal.{IsOptimal, firm_edges, loose_excess, ArePlaced, FirmOutweighLoose};
 
 /// Different edges stand at different places, so `key_of` gives back the edge that `place_of` placed.
 pub fn places_and_keys_are_one_to_one()
@@ -60,4 +60,9 @@ pub fn optimal_circulations_are_paid_by_loose_edges()
         Meets (firm_edges edges) potentials → value_of places edges units ≡ pos (loose_excess places edges potentials) }
     ensures firm { (places : ℕ) (edges : Edges) (units : Units) (potentials times : ℕ → ℤ) → IsCirculation places edges units → IsOptimal edges units potentials →
         FirmOutweighLoose places edges → Meets (firm_edges edges) times → Meets (firm_edges edges) potentials }
+{}
+
+/// Of edges that stand where they may, each that isn't loose can carry more than all loose ones together.
+pub fn firm_edges_outweigh_loose_ones()
+    ensures { (edges : Edges) → ArePlaced edges → FirmOutweighLoose 9472 edges }
 {}
