@@ -14,7 +14,7 @@ cond_same : (b : Bool) (n : ℕ) → cond b n n ≡ n
 cond_same true n = refl
 cond_same false n = refl
 
-get_or-replicate_default : {X : Type 0} (n i : ℕ) (x : X) → get_or (replicate n x) i x ≡ x
+pub get_or-replicate_default : {X : Type 0} (n i : ℕ) (x : X) → get_or (replicate n x) i x ≡ x
 get_or-replicate_default zero i x = refl
 get_or-replicate_default (suc n) zero x = refl
 get_or-replicate_default (suc n) (suc i) x = get_or-replicate_default n i x

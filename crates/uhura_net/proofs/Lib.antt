@@ -1,16 +1,17 @@
 mod Cancelling
 pub mod Clones
 mod Cycles
-mod Duality
+pub mod Duality
 mod Empty
-mod Firm
+pub mod Firm
+mod Loops
 mod Moves
-mod Outweighing
-mod Paying
+pub mod Outweighing
+pub mod Paying
 mod Prices
 mod Pushing
 mod Rows
-mod Scaled
+pub mod Scaled
 mod Setting
-mod Sums
-mod Walks
+pub mod Sums
+pub mod Walks

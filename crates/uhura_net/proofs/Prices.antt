@@ -6,7 +6,7 @@ use Rattle.uhura_net.specs.declared.edge.Edge.{Edge}
 use Rattle.uhura_net.specs.Edges.{edge_at}
 use Rattle.uhura_net.specs.Sums.{int_sum_below}
 use Rattle.uhura_net.specs.Circulation.{edges_of, units_of, weighed}
-use Rattle.uhura_net.specs.Net.{IsPriceOf}
+use Rattle.uhura_net.specs.Price.{IsPriceOf}
 
 pub record IsPriceSoFar (edges : List (Option Edge)) (units : List ℕ) (places : ℕ) (sum : ℤ) : Type 0 where
   pub price : sum ≡ weighed places (edges_of edges) (units_of units) (λ edge. edge.bound)

@@ -1,5 +1,5 @@
 -- Edges with a circulation on them.
-use Rattle.std.specs.Prelude.{ℕ, ◌*◌, ◌<◌, ◌≤◌, ◌≡◌, ◌≢◌, ◌⊎◌, pos, negsuc, neg_ℤ, ◌≤ℤ◌, ℤ, List, Option, None, IfSome, unwrap_or, length, slice_index_or}
+use Rattle.std.specs.Prelude.{ℕ, ◌<◌, ◌≤◌, ◌≡◌, ◌≢◌, ◌⊎◌, pos, negsuc, ◌≤ℤ◌, ℤ, List, Option, None, IfSome, unwrap_or, length, slice_index_or}
 use Rattle.uhura_net.specs.declared.edge.Edge.{Edge}
 use Rattle.uhura_net.specs.Edges.{no_edge, edge_at}
 use Rattle.uhura_net.specs.Circulation.{edges_of, units_of, IsCirculation, value_of}
@@ -45,16 +45,3 @@ pub record CanTakeOver (old new : Edge) (units : ℕ) : Type 0 where
 abbrev pub MayBeSet : Carried → ℕ → Option Edge → Type 0
 MayBeSet net place edge =
     (units_of net.units place ≡ 0) ⊎ CanTakeOver (edge_at (edges_of net.edges) place) (unwrap_or edge no_edge) (units_of net.units place)
-
--- what units may cost at most, either way: 10,000,000,000 units at 2,000,000,000 on each edge
-abbrev pub IsPriceOf : ℕ → ℤ → Type 0
-IsPriceOf edges price = (neg_ℤ (pos (edges * 20000000000000000000)) ≤ℤ price) × (price ≤ℤ pos (edges * 20000000000000000000))
-
--- an edge of a net with at most its units, or none
-pub record IsPriced (edge : Edge) (units : ℕ) : Type 0 where
-  pub least : negsuc 1999999999 ≤ℤ edge.bound
-  pub most : edge.bound ≤ℤ pos 2000000000
-  pub few : units ≤ 10000000000
-
-abbrev pub ArePriced : List (Option Edge) → List ℕ → Type 0
-ArePriced edges units = (place : ℕ) → IsPriced (edge_at (edges_of edges) place) (units_of units place)

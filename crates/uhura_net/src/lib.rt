@@ -11,6 +11,8 @@ mod net;
 mod place;
 mod pricing;
 mod table;
+#[cfg(test)]
+mod tests;
 
 pub use edge::Edge;
 pub use net::Net;

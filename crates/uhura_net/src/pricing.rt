@@ -2,7 +2,7 @@
 ghost use Rattle.std.specs.Prelude.{◌≡◌, length, pos, ◌*ℤ◌, unwrap_or};
 ghost use Rattle.uhura_net.specs.Edges.{no_edge};
 ghost use Rattle.uhura_net.specs.Circulation.{edges_of, units_of, weighed};
-ghost use Rattle.uhura_net.specs.Net.{IsPriceOf, IsPriced, ArePriced};
+ghost use Rattle.uhura_net.specs.Price.{IsPriceOf, IsPriced, ArePriced};
 
 use crate::Edge;
 
