@@ -2,14 +2,15 @@
 use Rattle.std.proofs.Common.{◌≡◌, ℕ, zero, suc, ◌+◌, ◌*◌, ◌<◌, ◌≤◌, ℤ, pos, ◌+ℤ◌, ◌-ℤ◌, ◌≤ℤ◌, refl, arith}
 use Rattle.std.specs.Prelude.{◌*ℤ◌}
 use Rattle.std.proofs.lemmas.Int.{ints}
+use Rattle.std.proofs.Math.Nat.{mul-le-mul_right}
 use borrow.Author.Differences.{up, down}
 use Rattle.uhura_net.specs.declared.edge.Edge.{Edge}
 use Rattle.uhura_net.specs.Edges.{Edges, edge_at}
 use Rattle.uhura_net.specs.Sums.{sum_below, int_sum_below}
-use Rattle.uhura_net.specs.Circulation.{Units, IsBalanced, weighed, value_of, KeepsWithin}
+use Rattle.uhura_net.specs.Circulation.{Units, IsBalanced, IsCirculation, weighed, value_of, KeepsWithin}
 use Rattle.uhura_net.proofs.Scaled.{scaled_parts, scaled-plus, scaled-twice, scaled-le, scaled-zero, scaled-neg}
 use Rattle.uhura_net.proofs.Cancelling.{cancel}
-use Rattle.uhura_net.proofs.Sums.{int_sum_below-naturals}
+use Rattle.uhura_net.proofs.Sums.{sum_below-le, int_sum_below-naturals}
 
 -- a weighed sum is that of the upper parts less that of the lower parts
 weighed_parts : (n : ℕ) (u : ℕ → ℕ) (z : ℕ → ℤ) →
@@ -77,3 +78,13 @@ pub weak_duality-naturals : (places k : ℕ) (edges : Edges) (units : Units) (ti
 weak_duality-naturals places k edges units times allowance balanced keep =
     rw (← int_sum_below-naturals places (λ place. units place * allowance place))
     (weak_duality places k edges units times (λ place. pos (allowance place)) balanced keep)
+
+-- and since no edge carries more than its capacity
+pub weak_duality-capacities : (places k : ℕ) (edges : Edges) (units : Units) (times : ℕ → ℤ) (allowance : ℕ → ℕ) → IsCirculation places edges units →
+    ((place : ℕ) → place < places → 1 ≤ units place → KeepsWithin k times (pos (allowance place)) (edge_at edges place)) →
+    (pos k *ℤ value_of places edges units) ≤ℤ pos (sum_below places (λ place. (edge_at edges place).capacity * allowance place))
+weak_duality-capacities places k edges units times allowance circulation keep =
+    let more : (place : ℕ) → place < places → units place * allowance place ≤ (edge_at edges place).capacity * allowance place =
+    λ place _. mul-le-mul_right (allowance place) (circulation.within place) in
+    let sums = sum_below-le places (λ place. units place * allowance place) (λ place. (edge_at edges place).capacity * allowance place) more in
+    omega (arith, ints, sums, weak_duality-naturals places k edges units times allowance circulation.balanced keep)

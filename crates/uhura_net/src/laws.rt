@@ -42,7 +42,7 @@ pub fn balanced_units_cancel_times()
 {}
 
 /// Weak duality at every scale: where times in k-ths keep each edge that has units, but for an allowance, k times the
-/// value is at most the sum of the units times the allowances.
+/// value is at most the sum of the units times the allowances, and so of the capacities times the allowances.
 pub fn values_are_bounded_by_allowances()
     ensures any { (places k : ℕ) (edges : Edges) (units : Units) (times : ℕ → ℤ) (allowance : ℕ → ℤ) → IsBalanced places edges units →
         ((place : ℕ) → place < places → 1 ≤ units place → KeepsWithin k times (allowance place) (edge_at edges place)) →
@@ -50,6 +50,9 @@ pub fn values_are_bounded_by_allowances()
     ensures not_below_0 { (places k : ℕ) (edges : Edges) (units : Units) (times : ℕ → ℤ) (allowance : ℕ → ℕ) → IsBalanced places edges units →
         ((place : ℕ) → place < places → 1 ≤ units place → KeepsWithin k times (pos (allowance place)) (edge_at edges place)) →
         (pos k *ℤ value_of places edges units) ≤ℤ pos (sum_below places (λ place. units place * allowance place)) }
+    ensures by_capacities { (places k : ℕ) (edges : Edges) (units : Units) (times : ℕ → ℤ) (allowance : ℕ → ℕ) → IsCirculation places edges units →
+        ((place : ℕ) → place < places → 1 ≤ units place → KeepsWithin k times (pos (allowance place)) (edge_at edges place)) →
+        (pos k *ℤ value_of places edges units) ≤ℤ pos (sum_below places (λ place. (edge_at edges place).capacity * allowance place)) }
 {}
 
 /// The value of a circulation, and potentials that show each other optimal: where the potentials meet each edge that
