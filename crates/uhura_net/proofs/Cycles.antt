@@ -153,6 +153,7 @@ pub record IsNetPushed (before : Carried) (places : List Place) (backward : List
 IsNetPushed-around : (net : Carried) (places : List Place) (backward : List Bool) (amount : ℕ) (units : List ℕ) (pushes : ℕ) → IsNet net →
     IsResidualCycle (edges_of net.edges) (units_of net.units) places backward amount → IsPushed places backward amount (units_of net.units) (units_of units) →
     length units ≡ length net.units → IsNetPushed net places backward amount (record { edges = net.edges; units = units; pushes = pushes })
+unfolding net_value
 IsNetPushed-around net places backward amount units pushes is_net cycle pushed counts = record {
   sound = record {
     places = is_net.places;

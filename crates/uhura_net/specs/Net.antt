@@ -32,7 +32,7 @@ pub record IsNet (net : Carried) : Type 0 where
   pub circulates : Circulates net
 
 -- the value of the circulation
-abbrev pub net_value : Carried → ℤ
+unfoldable pub net_value : Carried → ℤ
 net_value net = value_of 9472 (edges_of net.edges) (units_of net.units)
 
 -- some units may pass from an edge to another: it has the same nodes and can carry them

@@ -89,6 +89,7 @@ impl Net {
     }
 
     /// The value of the circulation: minus the sum of bound times units.
+    #[tactic(auto, unfolding(crate::specs::Net::net_value))]
     pub fn value(&self) -> i128
         ensures value { result ≡ net_value self.now }
         ensures sound { IsNet self.now }
