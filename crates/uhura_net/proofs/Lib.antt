@@ -10,7 +10,7 @@ pub mod Outweighing
 pub mod Paying
 mod Prices
 mod Pushing
-mod Rows
+pub mod Rows
 pub mod Scaled
 mod Setting
 pub mod Sums
