@@ -2,4 +2,4 @@ pub mod Clones
 mod Empty
 pub mod Rows
 pub mod Scaled
-mod Walks
+pub mod Walks
