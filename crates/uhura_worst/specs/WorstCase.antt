@@ -12,7 +12,7 @@ use Rattle.uhura_plan.specs.declared.uncertain.Uncertain.{Uncertain}
 use Rattle.uhura_choice.specs.declared.prefix.Pick.{Pick}
 use Rattle.uhura_choice.specs.Branch.{holds}
 use Rattle.uhura_net.specs.declared.edge.Edge.{Edge}
-use Rattle.uhura_net.specs.Edges.{Keeps, KeepsAt}
+use Rattle.uhura_net.specs.Edges.{Edges, Keeps, KeepsAt}
 use Rattle.uhura_net.specs.Place.{is_loose_key}
 use Rattle.uhura_veto.specs.State.{State}
 use Rattle.uhura_worst.specs.Proposal.{Proposal, loosened, narrowed, least_left, greatest_left}
@@ -66,6 +66,11 @@ extreme_times plan k q node = if nat_lt node 512 then q.times node else end_time
 abbrev pub KeepsFirmEdges : State → ℕ → List Pick → (ℕ → ℤ) → Type 0
 KeepsFirmEdges state k branch times = (key : EdgeKey) (edge : Edge) → edge_of state key ≡ Some edge → IsFalse (is_loose_key key) →
     IsTrue (is_active_edge state.plan branch key) → KeepsAt k times edge
+
+-- each of these edges is there, active in the branch and not loose
+abbrev pub AreFirmEdges : State → List Pick → Edges → Type 0
+AreFirmEdges state branch edges = (place : ℕ) (edge : Edge) → edges place ≡ Some edge →
+    (key : EdgeKey) × (edge_of state key ≡ Some edge) × IsFalse (is_loose_key key) × IsTrue (is_active_edge state.plan branch key)
 
 -- how far an integer is above 0
 abbrev pub excess : ℤ → ℕ

@@ -6,11 +6,14 @@ ghost use Rattle.uhura_plan.specs.Lists.{Lists};
 ghost use Rattle.uhura_plan.specs.Sound.{IsSound};
 ghost use Rattle.uhura_choice.specs.declared.prefix.Pick.{Pick};
 ghost use Rattle.uhura_choice.specs.Branch.{IsBranch};
+ghost use Rattle.uhura_net.specs.declared.place.Place.{Place};
+ghost use Rattle.uhura_net.specs.Edges.{Edges};
+ghost use Rattle.uhura_net.specs.Walk.{IsNegativeWalk};
 ghost use Rattle.uhura_veto.specs.State.{State};
 ghost use Rattle.uhura_veto.specs.Denial.{is_denied};
 ghost use Rattle.uhura_worst.specs.Allowed.{Allowed};
 ghost use Rattle.uhura_worst.specs.Proposal.{Proposal, Meets};
-ghost use Rattle.uhura_worst.specs.WorstCase.{HasTimesOf, AreExtremes, LeavesRanges, MeetsWorstCase, extreme_times, KeepsFirmEdges, proposal_at};
+ghost use Rattle.uhura_worst.specs.WorstCase.{HasTimesOf, AreExtremes, LeavesRanges, MeetsWorstCase, extreme_times, KeepsFirmEdges, AreFirmEdges, proposal_at};
 
 /// Where some times of the nodes meet the loosened edges, the events meet the requirements for all durations left:
 /// each end comes between the times of its two nodes.
@@ -34,6 +37,11 @@ pub fn worst_case_is_exact()
 /// and not loose.
 pub fn allowed_proposals_keep_firm_edges()
     ensures { (state : State) (k : ℕ) (q : Proposal) → IsSound state.plan → Allowed state k q → KeepsFirmEdges state k q.branch (extreme_times state.plan k q) }
+{}
+
+/// So where a proposal is allowed in a branch, no such edges make a closed walk whose bounds sum below 0.
+pub fn allowed_proposals_leave_no_negative_walk()
+    ensures { (state : State) (k : ℕ) (q : Proposal) (edges : Edges) (places : List Place) → IsSound state.plan → Allowed state k q → AreFirmEdges state q.branch edges → IsNegativeWalk edges places → ⊥ }
 {}
 
 /// Where times of the nodes keep each edge that is there, active in a branch of the plan that isn't denied, and not
