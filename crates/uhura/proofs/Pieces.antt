@@ -8,7 +8,7 @@ use Rattle.uhura_io.specs.Streams.{last_count}
 use Rattle.uhura_text.specs.Lines.{whole}
 use Rattle.uhura_text.specs.Reading.{Reading, IsFresh}
 use Rattle.uhura_veto.specs.State.{State}
-use Rattle.uhura_session.specs.Answers.{empty_state}
+use Rattle.uhura_command.specs.State.{empty_state}
 use Rattle.uhura_session.specs.Transcript.{Transcript}
 use Rattle.uhura_session.proofs.Conversing.{Conversation-nil}
 use Rattle.uhura.specs.Run.{script_limit, all_bytes, AnswersFirstLines, IsFrontOfTranscript, Leaves, Runs}

@@ -9,7 +9,8 @@ use Rattle.uhura_text.specs.declared.lines.Fed.{Fed}
 use Rattle.uhura_text.specs.declared.lines.Fed.TheVariants.{More, Line, Long}
 use Rattle.uhura_text.proofs.Growing.{lines-nil, whole-push_other, behind-push_newline, behind-push_other, lines-push_newline, lines-finished, lines-unfinished, take-lines_append, shown-take, take-take_push, nil-from_take}
 use Rattle.uhura_veto.specs.State.{State}
-use Rattle.uhura_session.specs.Answers.{Answers, empty_state}
+use Rattle.uhura_command.specs.State.{empty_state}
+use Rattle.uhura_session.specs.Answers.{Answers}
 use Rattle.uhura_session.specs.Transcript.{Conversation}
 use Rattle.uhura_session.proofs.Conversing.{Conversation-nil, Conversation-push}
 use Rattle.uhura.specs.Run.{AnswersFirstLines, IsFrontOfTranscript}

@@ -3,7 +3,7 @@ use Rattle.std.specs.Prelude.{◌≡◌, ℕ, ◌<◌, ◌≤◌, Bool, true, fa
 use Rattle.std.specs.Io.KnownBytes.{Appends, Consumes, IsAtEnd}
 use Rattle.uhura_text.specs.Lines.{lines, whole}
 use Rattle.uhura_veto.specs.State.{State}
-use Rattle.uhura_session.specs.Answers.{empty_state}
+use Rattle.uhura_command.specs.State.{empty_state}
 use Rattle.uhura_session.specs.Transcript.{Conversation, Transcript}
 use Rattle.uhura.specs.declared.status.Status.{Status}
 use Rattle.uhura.specs.declared.status.Status.TheVariants.{Done, Refused, Usage, TooLong, ReadFault, WriteFault, NoMemory}

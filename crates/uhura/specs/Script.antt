@@ -5,7 +5,8 @@ use Rattle.uhura_io.specs.Streams.{AppendsFront, HasRisen}
 use Rattle.uhura_text.specs.Lines.{lines, whole, behind}
 use Rattle.uhura_text.specs.Reading.{Reading}
 use Rattle.uhura_veto.specs.State.{State}
-use Rattle.uhura_session.specs.Answers.{Answers, empty_state}
+use Rattle.uhura_command.specs.State.{empty_state}
+use Rattle.uhura_session.specs.Answers.{Answers}
 use Rattle.uhura_session.specs.Transcript.{Conversation, Transcript}
 use Rattle.uhura.specs.Run.{AnswersFirstLines, IsFrontOfTranscript}
 use Rattle.uhura.specs.declared.script.Stop.{Stop}

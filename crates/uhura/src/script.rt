@@ -2,7 +2,7 @@
 ghost use Rattle.std.specs.Prelude.{◌≡◌, ◌≢◌, ◌+◌, ◌^◌, ◌<◌, ◌≤◌, ◌⊎◌, ◌∷◌, []};
 ghost use Rattle.uhura_io.specs.Streams.{HasRisen};
 ghost use Rattle.uhura_text.specs.Reading.{IsFresh};
-ghost use Rattle.uhura_session.specs.Answers.{empty_state};
+ghost use Rattle.uhura_command.specs.State.{empty_state};
 ghost use Rattle.uhura.specs.declared.status.Status.TheVariants.{Done, Refused, Usage, TooLong, ReadFault, WriteFault};
 ghost use Rattle.uhura.specs.Run.{script_limit, Runs};
 ghost use Rattle.uhura.specs.Script.{AnswersLine, AnswersBytes, AnswersEnd, HasStopCause, status_of, EndsRun};
@@ -31,12 +31,12 @@ fn answer_line<K: Sink>(session: &mut Session, line: &[u8], sink: &mut K) -> Res
     ensures line { AnswersLine session.old.state line.now (K.written sink.old) result session.new.state (K.written sink.new) }
     ensures cause { HasStopCause (K.faults sink.old) (K.faults sink.new) result }
 {
-    let refused = match session.answer(line) {
-        Ok(refused) => refused,
+    let answer = match session.line(line) {
+        Ok(answer) => answer,
         Err(AllocError) => return Err(Stop::NoMemory),
     };
-    match write_all(sink, session.text()) {
-        Ok(()) => Ok(refused),
+    match write_all(sink, answer.text) {
+        Ok(()) => Ok(answer.refused),
         Err(Failed) => Err(Stop::WriteFault),
     }
 }

@@ -1,6 +1,7 @@
 -- Branches of a plan: what is picked, what is active, which branch is earlier, what the picks cost.
 use Rattle.std.specs.Prelude.{◌≡◌, ℕ, ◌+◌, ◌<◌, ◌⊎◌, Bool, false, IsTrue, IsFalse, List, [], ◌∷◌, ◌++◌, length, slice_get, None, Some, Option, nat_eq, unwrap_or, option_map}
 use Rattle.std.specs.List.{list_all}
+use Rattle.std.specs.Option.{option_map_or}
 use Rattle.uhura_plan.specs.declared.guard.Literal.{Literal}
 use Rattle.uhura_plan.specs.declared.choice.Choice.{Choice}
 use Rattle.uhura_choice.specs.declared.prefix.Pick.{Pick}
@@ -19,6 +20,10 @@ is_picked picks l = is_alternative l.alternative (slice_get picks l.choice)
 -- a guard holds where each of its literals is picked: what it guards is then active
 abbrev pub holds : List Literal → List Pick → Bool
 holds guard picks = list_all (is_picked picks) guard
+
+-- the choice at this place is active: it is there, and its guard holds
+abbrev pub is_active : List Choice → List Pick → ℕ → Bool
+is_active choices picks place = option_map_or (λ c. holds c.guard picks) (slice_get choices place) false
 
 -- an entry fits a choice after the entries before it: an alternative of the choice where its guard holds
 -- there, and nothing where it doesn't
@@ -54,6 +59,10 @@ IsEarlier (Inactive ∷ xs) (Alternative b ∷ ys) = ⊥
 abbrev pub pick_cost : Choice → Pick → ℕ
 pick_cost c Inactive = 0
 pick_cost c (Alternative a) = unwrap_or (option_map (λ pair. pair.1) (slice_get c.alternatives a)) 0
+
+-- what the pick at this place costs: nothing where there is none, or no such choice
+abbrev pub cost_at : List Choice → List Pick → ℕ → ℕ
+cost_at choices picks place = option_map_or (λ c. option_map_or (pick_cost c) (slice_get picks place) 0) (slice_get choices place) 0
 
 -- the costs of all picks together
 abbrev pub picked_cost : List Choice → List Pick → ℕ

@@ -1,1 +1,4 @@
 pub mod Branch
+pub mod Children
+pub mod Order
+pub mod Walk

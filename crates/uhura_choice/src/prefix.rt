@@ -1,5 +1,5 @@
 //! The first picks of a branch.
-ghost use Rattle.std.specs.Prelude.{◌≡◌, []};
+ghost use Rattle.std.specs.Prelude.{◌≡◌, ◌<◌, ◌≤◌, [], ◌∷◌, ◌++◌, length, take};
 
 use std::marker::Model;
 
@@ -45,8 +45,29 @@ impl Prefix {
 
     /// The picks in the order of the choices.
     pub fn entries(&self) -> &[Pick]
-        ensures { result.now ≡ self.now }
+        ensures entries { result.now ≡ self.now }
+        ensures few { length self.now ≤ 16 }
     {
         &self.picks[..self.len as usize]
+    }
+
+    /// The first so many picks.
+    pub(crate) fn front(&self, len: usize) -> Prefix
+        requires { len ≤ length self.now }
+        ensures { result ≡ take len self.now }
+    {
+        Prefix {
+            picks: self.picks,
+            len: len as u8,
+        }
+    }
+
+    /// Appends a pick.
+    pub(crate) fn push(&mut self, pick: Pick)
+        requires { length self.old < 16 }
+        ensures { self.new ≡ self.old ++ pick ∷ [] }
+    {
+        self.picks[self.len as usize] = pick;
+        self.len += 1;
     }
 }

@@ -10,12 +10,11 @@ use Rattle.uhura_command.specs.Form as grammar
 use Rattle.uhura_command.specs.Form.{Word, pair_words, guard_words}
 use Rattle.uhura_command.specs.Reads.{is_amount, are_names, alternative_pairs}
 use Rattle.uhura_command.specs.Parses.{ParsesWords}
-use Rattle.uhura_command.specs.Tails.{alternatives_of, pairs_of, guard_of, begins_with}
+use Rattle.uhura_command.specs.Tails.{alternatives_of, guard_of, begins_with}
 use Rattle.uhura_command.proofs.Outcomes.{along, bad_number, bad_name, parsed, no_memory, unlike}
 use Rattle.uhura_command.proofs.Inversions.{choice_name, choice_parts, ChoiceParts}
-use Rattle.uhura_command.proofs.GuardLemmas.{guard_found}
+use Rattle.uhura_command.proofs.GuardLemmas.{guard_found, guard_are}
 use Rattle.uhura_command.proofs.CostedLemmas.{ended}
-use Rattle.uhura_command.proofs.Pairing.{pairs_are}
 
 all_names : (a b c : Bool) → a ≡ true → b ≡ true → c ≡ true → (a && b && c) ≡ true
 all_names a b c e f g = rw (e, f) g
@@ -170,16 +169,6 @@ alternatives_are [] a left h =
 alternatives_are (x ∷ []) a left h = written_bare x (bytes_eq x (codes "when")) a left h
 alternatives_are (x ∷ y ∷ more) a left h =
     written_step x y more (bytes_eq x (codes "when")) (bytes_eq y (codes "when")) (alternatives_of more) a left refl refl (λ b rest e. alternatives_are more b rest e) h
-
-guard_by : (w x : Word) (more : List Word) (t : Bool) (g : List (Word × Word)) → bytes_eq w (codes "when") ≡ t → cond {A = Option (List (Word × Word))} t (pairs_of (x ∷ more)) None ≡ Some g → w ∷ x ∷ more ≡ guard_words g
-guard_by w x more false g e h = cc
-guard_by w x more true [] e h = let are : x ∷ more ≡ [] = pairs_are (x ∷ more) [] h in cc
-guard_by w x more true (pair ∷ g) e h = ap (λ l. w ∷ l) (pairs_are (x ∷ more) (pair ∷ g) h) ∙ ap (λ v. v ∷ pair_words (pair ∷ g)) ((bytes_eq-Decides w (codes "when")).0 e)
-
-guard_are : (words : List Word) (g : List (Word × Word)) → guard_of words ≡ Some g → words ≡ guard_words g
-guard_are [] g h = let none : [] ≡ g = cc in ap guard_words none
-guard_are (w ∷ []) g h = cc
-guard_are (w ∷ x ∷ more) g h = guard_by w x more (bytes_eq w (codes "when")) g refl h
 
 -- where the words begin with an alternative, one is found
 some_found : (more left : List Word) (a : List (Word × Word)) → (more ≡ [] → ⊥) → begins_with (codes "when") more ≡ false → alternatives_of more ≡ Some (a, left) → a ≢ []

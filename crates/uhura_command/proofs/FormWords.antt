@@ -1,5 +1,5 @@
 -- The words of a form whose names and numbers are such are words that a line may hold.
-use Rattle.std.proofs.Common.{◌≡◌, ℕ, ◌<◌, ◌≤◌, ℤ, pos, negsuc, Bool, true, false, cond, not, ◌||◌, ◌&&◌, List, [], ◌∷◌, ◌++◌, length, drop, eqb, leb, get_or, Option, Some, None, bytes_eq, refl, sym, subst, arith, le-leb, ltb, ltb-true, true≢false}
+use Rattle.std.proofs.Common.{◌≡◌, ℕ, ◌<◌, ◌≤◌, ℤ, pos, negsuc, Bool, true, false, cond, not, ◌||◌, ◌&&◌, List, [], ◌∷◌, ◌++◌, length, drop, eqb, leb, leb-true, get_or, Option, Some, None, bytes_eq, refl, sym, subst, arith, le-leb, ltb, ltb-true, true≢false}
 use Rattle.std.specs.Prelude.{codes, int_le}
 use Rattle.std.specs.List.{AllByRecursion, list_all}
 use Rattle.std.specs.Option.{option_map_or}
@@ -15,14 +15,14 @@ use Rattle.uhura_text.specs.Words.{is_graphic}
 use Rattle.uhura_plan.specs.Name.{is_name, is_letter, is_name_byte, is_fixed_word}
 use Rattle.uhura_plan.specs.declared.key.Side.{Side}
 use Rattle.uhura_plan.specs.declared.key.Side.TheVariants.{Lower, Upper}
-use Rattle.uhura_plan.proofs.Names.{least_name}
+use Rattle.uhura_plan.proofs.Names.{least_name, most_name}
 use Rattle.uhura_command.specs.Form.{Word, Priced, Kind, Form, pair_words, guard_words, words_of, side_word, kind_word, requirement, duration, rate_words, price_words, priced_words, set_words, set_rate_words, optional}
 use Rattle.uhura_command.specs.Form as forms
 use Rattle.uhura_command.specs.Written.{line_of, joined, IsLineOf}
 use Rattle.uhura_command.specs.declared.command.Command.{Command}
 use Rattle.uhura_command.proofs.Spacing.{line_of-joined}
 use Rattle.uhura_command.specs.Reads.{form_of, IsCommand, is_number, is_bound, is_rate, is_amount, is_priced, if_there, are_names, has_names, has_numbers}
-use Rattle.uhura_command.proofs.ReadsBack.{IsWord, reads_back}
+use Rattle.uhura_command.proofs.ReadsBack.{IsWord, AreWords, reads_back}
 
 -- all words of both lists
 both : (xs ys : List Word) → AllByRecursion IsWord xs → AllByRecursion IsWord ys → AllByRecursion IsWord (xs ++ ys)
@@ -51,7 +51,7 @@ name_word word named =
     let behind = and_parts (leb 1 (length word) && leb (length word) 32) (is_letter (get_or word 0 0) && (list_all is_name_byte word && not (is_fixed_word word))) named in
     let bytes = and_parts (is_letter (get_or word 0 0)) (list_all is_name_byte word && not (is_fixed_word word)) behind.1 in
     let graphic = and_parts (list_all is_name_byte word) (not (is_fixed_word word)) bytes.1 in
-    record { some = omega (arith, least_name word named); graphic = all_weaker is_name_byte is_graphic graphic_name_byte word graphic.0 }
+    record { some = omega (arith, least_name word named); short = most_name word named; graphic = all_weaker is_name_byte is_graphic graphic_name_byte word graphic.0 }
 
 -- a digit is graphic
 graphic_digit : (b : ℕ) → is_ascii_digit b ≡ true → is_graphic b ≡ true
@@ -65,7 +65,7 @@ longer (d ∷ ds) above = omega arith
 magnitude_word : (ds : Word) → is_magnitude ds ≡ true → IsWord ds
 magnitude_word ds h =
     let m = from_is_magnitude ds h in
-    record { some = longer ds m.first; graphic = all_weaker is_ascii_digit is_graphic graphic_digit ds m.digits }
+    record { some = longer ds m.first; short = omega (arith, m.short); graphic = all_weaker is_ascii_digit is_graphic graphic_digit ds m.digits }
 
 -- with `-` in front they are a word too
 minus_word : (word : Word) → eqb (get_or word 0 0) 45 ≡ true → is_magnitude (drop 1 word) ≡ true → IsWord word
@@ -73,10 +73,10 @@ minus_word [] sign h = absurd (true≢false (sym sign))
 minus_word (b ∷ bs) sign h =
     let minus : b ≡ 45 = (Decides-eqb b 45).0 sign in
     let digits = magnitude_word bs h in
-    record { some = omega arith; graphic = rw (to_graphic b (omega (arith, minus)) (omega (arith, minus))) digits.graphic }
+    record { some = omega arith; short = omega (arith, (from_is_magnitude bs h).short); graphic = rw (to_graphic b (omega (arith, minus)) (omega (arith, minus))) digits.graphic }
 
 zero_word : (word : Word) → bytes_eq word (codes "0") ≡ true → IsWord word
-zero_word word h = subst IsWord (sym ((bytes_eq-Decides word (codes "0")).0 h)) (record { some = omega arith; graphic = refl })
+zero_word word h = subst IsWord (sym ((bytes_eq-Decides word (codes "0")).0 h)) (record { some = omega arith; short = omega arith; graphic = refl })
 
 -- by what kind of number it is
 number_by : (word : Word) (is_zero positive negative : Bool) (a b c z : ℤ)
@@ -108,7 +108,7 @@ within_word low high word h = within_by low high word (number_of word) refl h
 
 -- so is a bound
 bound_by : (word : Word) (none : Bool) → bytes_eq word (codes "-") ≡ none → (none || is_number (negsuc 999999999) (pos 1000000000) word) ≡ true → IsWord word
-bound_by word true e h = subst IsWord (sym ((bytes_eq-Decides word (codes "-")).0 e)) (record { some = omega arith; graphic = refl })
+bound_by word true e h = subst IsWord (sym ((bytes_eq-Decides word (codes "-")).0 e)) (record { some = omega arith; short = omega arith; graphic = refl })
 bound_by word false e h = within_word (negsuc 999999999) (pos 1000000000) word h
 
 bound_is_word : (word : Word) → is_bound word ≡ true → IsWord word
@@ -120,11 +120,18 @@ rate_is_word word h = within_word (pos 1) (pos 1000000) word h
 amount_is_word : (word : Word) → is_amount word ≡ true → IsWord word
 amount_is_word word h = within_word (pos 0) (pos 1000000000) word h
 
+-- what passes three tests passes each
+three : (a b c : Bool) → (a && b && c) ≡ true → (a ≡ true) × (b ≡ true) × (c ≡ true)
+three a b c h =
+    let outer = and_parts (a && b) c h in
+    let inner = and_parts a b outer.0 in
+    (inner.0, inner.1, outer.1)
+
 -- a word that is given by its letters
-letters : (word : Word) → (ltb 0 (length word) && list_all is_graphic word) ≡ true → IsWord word
+letters : (word : Word) → (ltb 0 (length word) && leb (length word) 32 && list_all is_graphic word) ≡ true → IsWord word
 letters word h =
-    let parts = and_parts (ltb 0 (length word)) (list_all is_graphic word) h in
-    record { some = ltb-true _ _ parts.0; graphic = parts.1 }
+    let parts = three (ltb 0 (length word)) (leb (length word) 32) (list_all is_graphic word) h in
+    record { some = ltb-true _ _ parts.0; short = leb-true _ _ parts.1; graphic = parts.2 }
 
 -- ---- the words of parts of a form
 
@@ -181,69 +188,65 @@ alternatives_are (pair ∷ pairs) names numbers =
 
 -- ---- the words of a form
 
-three : (a b c : Bool) → (a && b && c) ≡ true → (a ≡ true) × (b ≡ true) × (c ≡ true)
-three a b c h =
-    let outer = and_parts (a && b) c h in
-    let inner = and_parts a b outer.0 in
-    (inner.0, inner.1, outer.1)
-
 four : (a b c d : Bool) → (a && b && c && d) ≡ true → (a ≡ true) × (b ≡ true) × (c ≡ true) × (d ≡ true)
 four a b c d h =
     let outer = and_parts (a && b && c) d h in
     let inner = three a b c outer.0 in
     (inner.0, inner.1, inner.2, outer.1)
 
--- a line is read as its words, where the first doesn't begin with `#`
-read : (w : Word) (ws : List Word) → IsWord w → AllByRecursion IsWord ws → eqb (get_or w 0 0) 35 ≡ false → IsLineOf (line_of (w ∷ ws)) (w ∷ ws)
-read w ws first more sign = record { line = joined (w ∷ ws); is_line = line_of-joined (w ∷ ws); reads = reads_back w ws first more sign }
+-- a verb, and the words behind it
+verb_and : (w : Word) (ws : List Word) → IsWord w → AllByRecursion IsWord ws → eqb (get_or w 0 0) 35 ≡ false → AreWords (w ∷ ws)
+verb_and w ws first more sign = (first, more, sign)
 
--- the line of a form is read as the words of the form
-pub form_read_back : (form : Form) → has_names form ≡ true → has_numbers form ≡ true → IsLineOf (line_of (words_of form)) (words_of form)
-form_read_back (forms.event n) names numbers = read (codes "event") (n ∷ []) (letters (codes "event") refl) (name_word n names, tt) refl
-form_read_back (forms.uncertain n start end lo hi lower upper) names numbers =
+-- what stands at the places of a form are words
+pub form_words : (form : Form) → has_names form ≡ true → has_numbers form ≡ true → AreWords (words_of form)
+form_words (forms.event n) names numbers = verb_and (codes "event") (n ∷ []) (letters (codes "event") refl) (name_word n names, tt) refl
+form_words (forms.uncertain n start end lo hi lower upper) names numbers =
     let named = three (is_name n) (is_name start) (is_name end) names in
     let numbered = four (is_amount lo) (is_amount hi) (if_there is_rate lower) (if_there is_rate upper) numbers in
     let rates = both (rate_words Lower lower) (rate_words Upper upper) (rates_are Lower lower numbered.2) (rates_are Upper upper numbered.3) in
-    read (codes "uncertain") (n ∷ start ∷ end ∷ lo ∷ hi ∷ rate_words Lower lower ++ rate_words Upper upper) (letters (codes "uncertain") refl)
+    verb_and (codes "uncertain") (n ∷ start ∷ end ∷ lo ∷ hi ∷ rate_words Lower lower ++ rate_words Upper upper) (letters (codes "uncertain") refl)
     (name_word n named.0, (name_word start named.1, (name_word end named.2, (amount_is_word lo numbered.0, (amount_is_word hi numbered.1, rates))))) refl
-form_read_back (forms.choice n alternatives guard) names numbers =
+form_words (forms.choice n alternatives guard) names numbers =
     let named = three (is_name n) (list_all (λ a. is_name a.0) alternatives) (are_names guard) names in
-    read (codes "choice") (n ∷ pair_words alternatives ++ guard_words guard) (letters (codes "choice") refl)
+    verb_and (codes "choice") (n ∷ pair_words alternatives ++ guard_words guard) (letters (codes "choice") refl)
     (name_word n named.0, both (pair_words alternatives) (guard_words guard) (alternatives_are alternatives named.1 numbers) (guard_are guard named.2)) refl
-form_read_back (forms.require n from to lo hi lower upper guard) names numbers =
+form_words (forms.require n from to lo hi lower upper guard) names numbers =
     let named = four (is_name n) (is_name from) (is_name to) (are_names guard) names in
     let numbered = four (is_bound lo) (is_bound hi) (option_map_or is_priced lower true) (option_map_or is_priced upper true) numbers in
     let prices = both (price_words Lower lower) (price_words Upper upper) (prices_are Lower lower numbered.2) (prices_are Upper upper numbered.3) in
     let terms = both (price_words Lower lower ++ price_words Upper upper) (guard_words guard) prices (guard_are guard named.3) in
-    read (codes "require") (n ∷ from ∷ to ∷ lo ∷ hi ∷ price_words Lower lower ++ price_words Upper upper ++ guard_words guard) (letters (codes "require") refl)
+    verb_and (codes "require") (n ∷ from ∷ to ∷ lo ∷ hi ∷ price_words Lower lower ++ price_words Upper upper ++ guard_words guard) (letters (codes "require") refl)
     (name_word n named.0, (name_word from named.1, (name_word to named.2, (bound_is_word lo numbered.0, (bound_is_word hi numbered.1, terms))))) refl
-form_read_back (forms.drop n) names numbers = read (codes "drop") (n ∷ []) (letters (codes "drop") refl) (name_word n names, tt) refl
-form_read_back (forms.bound n side b) names numbers =
-    read (codes "bound") (n ∷ side_word side ∷ b ∷ []) (letters (codes "bound") refl) (name_word n names, (side_is_word side, (bound_is_word b numbers, tt))) refl
-form_read_back (forms.price n side p) names numbers =
-    read (codes "price") (codes "require" ∷ n ∷ side_word side ∷ set_words p) (letters (codes "price") refl)
+form_words (forms.drop n) names numbers = verb_and (codes "drop") (n ∷ []) (letters (codes "drop") refl) (name_word n names, tt) refl
+form_words (forms.bound n side b) names numbers =
+    verb_and (codes "bound") (n ∷ side_word side ∷ b ∷ []) (letters (codes "bound") refl) (name_word n names, (side_is_word side, (bound_is_word b numbers, tt))) refl
+form_words (forms.price n side p) names numbers =
+    verb_and (codes "price") (codes "require" ∷ n ∷ side_word side ∷ set_words p) (letters (codes "price") refl)
     (letters (codes "require") refl, (name_word n names, (side_is_word side, set_are p numbers))) refl
-form_read_back (forms.rate n side r) names numbers =
-    read (codes "price") (codes "uncertain" ∷ n ∷ side_word side ∷ set_rate_words r) (letters (codes "price") refl)
+form_words (forms.rate n side r) names numbers =
+    verb_and (codes "price") (codes "uncertain" ∷ n ∷ side_word side ∷ set_rate_words r) (letters (codes "price") refl)
     (letters (codes "uncertain") refl, (name_word n names, (side_is_word side, set_rate_are r numbers))) refl
-form_read_back (forms.range n lo hi) names numbers =
+form_words (forms.range n lo hi) names numbers =
     let numbered = and_parts (is_amount lo) (is_amount hi) numbers in
-    read (codes "range") (n ∷ lo ∷ hi ∷ []) (letters (codes "range") refl) (name_word n names, (amount_is_word lo numbered.0, (amount_is_word hi numbered.1, tt))) refl
-form_read_back (forms.prefer c a cost) names numbers =
+    verb_and (codes "range") (n ∷ lo ∷ hi ∷ []) (letters (codes "range") refl) (name_word n names, (amount_is_word lo numbered.0, (amount_is_word hi numbered.1, tt))) refl
+form_words (forms.prefer c a cost) names numbers =
     let named = and_parts (is_name c) (is_name a) names in
-    read (codes "prefer") (c ∷ a ∷ cost ∷ []) (letters (codes "prefer") refl) (name_word c named.0, (name_word a named.1, (amount_is_word cost numbers, tt))) refl
-form_read_back (forms.deny v literals) names numbers =
+    verb_and (codes "prefer") (c ∷ a ∷ cost ∷ []) (letters (codes "prefer") refl) (name_word c named.0, (name_word a named.1, (amount_is_word cost numbers, tt))) refl
+form_words (forms.deny v literals) names numbers =
     let named = and_parts (is_name v) (are_names literals) names in
-    read (codes "deny") (v ∷ pair_words literals) (letters (codes "deny") refl) (name_word v named.0, pairs_are literals named.1) refl
-form_read_back (forms.cap v kind n side units) names numbers =
+    verb_and (codes "deny") (v ∷ pair_words literals) (letters (codes "deny") refl) (name_word v named.0, pairs_are literals named.1) refl
+form_words (forms.cap v kind n side units) names numbers =
     let named = and_parts (is_name v) (is_name n) names in
-    read (codes "cap") (v ∷ kind_word kind ∷ n ∷ side_word side ∷ units ∷ []) (letters (codes "cap") refl)
+    verb_and (codes "cap") (v ∷ kind_word kind ∷ n ∷ side_word side ∷ units ∷ []) (letters (codes "cap") refl)
     (name_word v named.0, (kind_is_word kind, (name_word n named.1, (side_is_word side, (amount_is_word units numbers, tt))))) refl
-form_read_back (forms.withdraw v) names numbers = read (codes "withdraw") (v ∷ []) (letters (codes "withdraw") refl) (name_word v names, tt) refl
-form_read_back forms.show names numbers = read (codes "show") [] (letters (codes "show") refl) tt refl
-form_read_back forms.propose names numbers = read (codes "propose") [] (letters (codes "propose") refl) tt refl
-form_read_back forms.prove names numbers = read (codes "prove") [] (letters (codes "prove") refl) tt refl
+form_words (forms.withdraw v) names numbers = verb_and (codes "withdraw") (v ∷ []) (letters (codes "withdraw") refl) (name_word v names, tt) refl
+form_words forms.show names numbers = verb_and (codes "show") [] (letters (codes "show") refl) tt refl
+form_words forms.propose names numbers = verb_and (codes "propose") [] (letters (codes "propose") refl) tt refl
+form_words forms.prove names numbers = verb_and (codes "prove") [] (letters (codes "prove") refl) tt refl
 
 -- the line of a command is read as the words of its form
 pub command_read_back : (c : Command) → IsCommand c → IsLineOf (line_of (words_of (form_of c))) (words_of (form_of c))
-command_read_back c is_command = form_read_back (form_of c) is_command.names is_command.numbers
+command_read_back c is_command =
+    let words : List Word = words_of (form_of c) in
+    record { line = joined words; is_line = line_of-joined words; reads = reads_back words (form_words (form_of c) is_command.names is_command.numbers) }

@@ -1,10 +1,10 @@
 -- What the words behind a verb are, where they are of a form.
-use Rattle.std.proofs.Common.{◌≡◌, ◌≢◌, ◌≤◌, false, List, [], ◌∷◌, ◌++◌, length, Option, Some, None, bytes_eq, codes, refl, ap, sym, ◌∙◌, arith, true≢false}
+use Rattle.std.proofs.Common.{◌≡◌, ◌≢◌, ◌≤◌, false, List, [], ◌∷◌, ◌++◌, length, Option, Some, None, bytes_eq, codes, refl, ap, sym, ◌∙◌, arith, append_assoc, true≢false}
 use Rattle.std.specs.List.{AllByRecursion}
 use Rattle.std.proofs.lemmas.Slice.Eq.{bytes_eq-Decides}
 use Rattle.uhura_plan.specs.declared.key.Side.{Side}
 use Rattle.uhura_plan.specs.declared.key.Side.TheVariants.{Lower, Upper}
-use Rattle.uhura_command.specs.Form.{Word, Priced, Kind, Form, event, uncertain, choice, drop, bound, price, rate, range, prefer, deny, cap, withdraw, show, propose, prove, side_word, kind_word, pair_words, guard_words, rate_words, optional, set_words, set_rate_words, requirement, duration, IsForm}
+use Rattle.uhura_command.specs.Form.{Word, Priced, Kind, Form, event, uncertain, choice, require, drop, bound, price, rate, range, prefer, deny, cap, withdraw, show, propose, prove, side_word, kind_word, pair_words, guard_words, rate_words, price_words, HasMax, optional, set_words, set_rate_words, requirement, duration, IsForm}
 
 -- the first word, and those behind it
 abbrev pub head : List Word → Word
@@ -167,3 +167,29 @@ choice_parts n more (choice m alternatives guard) h = record {
   words_are = ap (λ l. tail (tail l)) h.words_are;
 }
 choice_parts n more _ h = absurd (differ (codes "choice") _ _ _ h.words_are refl)
+
+-- `require` has five words, and then the prices of its sides and a guard
+pub require_size : (rest : List Word) (f : Form) → IsForm (codes "require" ∷ rest) f → 5 ≤ length rest
+require_size rest (require n from to lo hi lower upper guard) h =
+    let e : length rest ≡ length (n ∷ from ∷ to ∷ lo ∷ hi ∷ price_words Lower lower ++ price_words Upper upper ++ guard_words guard) = ap (λ l. length (tail l)) h.words_are in
+    omega arith
+require_size rest _ h = absurd (differ (codes "require") _ _ _ h.words_are refl)
+
+pub record RequireParts (more : List Word) : Type 0 where
+  pub lower : Option Priced
+  pub upper : Option Priced
+  pub guard : List (Word × Word)
+  pub lower_max : HasMax (codes "upper" ∷ codes "when" ∷ []) lower
+  pub upper_max : HasMax (codes "when" ∷ []) upper
+  pub words_are : more ≡ price_words Lower lower ++ (price_words Upper upper ++ guard_words guard)
+
+pub require_parts : (n from to lo hi : Word) (more : List Word) (f : Form) → IsForm (codes "require" ∷ n ∷ from ∷ to ∷ lo ∷ hi ∷ more) f → RequireParts more
+require_parts n from to lo hi more (require m a b low high lower upper guard) h = record {
+  lower = lower;
+  upper = upper;
+  guard = guard;
+  lower_max = h.taken.0;
+  upper_max = h.taken.1;
+  words_are = ap (λ l. tail (tail (tail (tail (tail (tail l)))))) h.words_are ∙ append_assoc (price_words Lower lower) (price_words Upper upper) (guard_words guard);
+}
+require_parts n from to lo hi more _ h = absurd (differ (codes "require") _ _ _ h.words_are refl)

@@ -133,7 +133,7 @@ MayFollow others [] = Unit {0}
 MayFollow others (first ∷ rest) = begins_part others first ≡ true
 
 -- what doesn't begin with this side
-abbrev IsBehind : Word → List Word → Type 0
+abbrev pub IsBehind : Word → List Word → Type 0
 IsBehind side [] = Unit {0}
 IsBehind side (first ∷ rest) = bytes_eq first side ≡ false
 
@@ -149,7 +149,7 @@ behind_most-words others [] None max follows = refl
 behind_most-words others (first ∷ rest) None max follows = rw follows refl
 behind_most-words others rest (Some word) max follows = rw (begins_part-not others word max) refl
 
-same_side : (side : Side) → bytes_eq (side_word side) (side_word side) ≡ true
+pub same_side : (side : Side) → bytes_eq (side_word side) (side_word side) ≡ true
 same_side Lower = refl
 same_side Upper = refl
 
@@ -287,7 +287,7 @@ unfolding begins_part
 when_may_follow [] = tt
 when_may_follow (pair ∷ pairs) = refl
 
-not_upper : (guard : List (Word × Word)) → IsBehind (codes "upper") (guard_words guard)
+pub not_upper : (guard : List (Word × Word)) → IsBehind (codes "upper") (guard_words guard)
 not_upper [] = tt
 not_upper (pair ∷ pairs) = refl
 
@@ -297,7 +297,7 @@ rest_may_follow None [] = tt
 rest_may_follow None (pair ∷ pairs) = refl
 rest_may_follow (Some p) guard = refl
 
-not_lower : (upper : Option Priced) (guard : List (Word × Word)) → IsBehind (codes "lower") (price_words Upper upper ++ guard_words guard)
+pub not_lower : (upper : Option Priced) (guard : List (Word × Word)) → IsBehind (codes "lower") (price_words Upper upper ++ guard_words guard)
 not_lower None [] = tt
 not_lower None (pair ∷ pairs) = refl
 not_lower (Some p) guard = refl

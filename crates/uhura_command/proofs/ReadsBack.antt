@@ -11,9 +11,10 @@ use Rattle.uhura_plan.proofs.Literals.{position_none}
 use Rattle.uhura_command.specs.Form.{Word}
 use Rattle.uhura_command.specs.Written.{spaced, joined, ReadsAs}
 
--- a word: it has a byte, and each of its bytes is from 0x21 to 0x7E
+-- a word: it has 1 to 32 bytes, each from 0x21 to 0x7E
 pub record IsWord (word : Word) : Type 0 where
   pub some : 0 < length word
+  pub short : length word ≤ 32
   pub graphic : list_all is_graphic word ≡ true
 
 -- a graphic byte is no blank
@@ -43,7 +44,7 @@ words-joined w (v ∷ vs) first more =
     ap kept (slice_split_at is_blank w 32 (v ++ spaced vs) (no_blank w first.graphic) refl) ∙ kept-cons w (slice_split is_blank (v ++ spaced vs)) first.some ∙ ap (λ rest. w ∷ rest) (words-joined v vs more.0 more.1)
 
 -- a byte that may stand in a line
-abbrev is_good : ℕ → Bool
+abbrev pub is_good : ℕ → Bool
 is_good b = is_blank b || is_graphic b
 
 good_graphic : (b : ℕ) → is_graphic b ≡ true → is_good b ≡ true
@@ -65,11 +66,12 @@ none_bad (b ∷ bs) h =
     let parts = and_parts (is_good b) (list_all is_good bs) h in
     rw parts.0 (none_bad bs parts.1)
 
+good_joined : (w : Word) (ws : List Word) → IsWord w → AllByRecursion IsWord ws → list_all is_good (joined (w ∷ ws)) ≡ true
+good_joined w ws first more = list_all-append is_good w (spaced ws) ∙ rw (good_word w first.graphic) (good_spaced ws more)
+
 first_bad-joined : (w : Word) (ws : List Word) → IsWord w → AllByRecursion IsWord ws → first_bad (joined (w ∷ ws)) ≡ None
 unfolding first_bad
-first_bad-joined w ws first more =
-    let good : list_all is_good (w ++ spaced ws) ≡ true = list_all-append is_good w (spaced ws) ∙ rw (good_word w first.graphic) (good_spaced ws more) in
-    position_none (λ b. not (is_good b)) (w ++ spaced ws) (none_bad (w ++ spaced ws) good)
+first_bad-joined w ws first more = position_none (λ b. not (is_good b)) (w ++ spaced ws) (none_bad (w ++ spaced ws) (good_joined w ws first more))
 
 -- a line whose first byte is graphic, and no `#`, is neither blank nor a comment
 asks-cons : (b : ℕ) (bs : List ℕ) → is_graphic b ≡ true → eqb b 35 ≡ false → is_quiet (b ∷ bs) ≡ false
@@ -80,10 +82,21 @@ asks-joined : (w : Word) (ws : List Word) → IsWord w → eqb (get_or w 0 0) 35
 asks-joined [] ws first sign = absurd (omega (arith, first.some))
 asks-joined (b ∷ bs) ws first sign = asks-cons b (bs ++ spaced ws) (and_parts (is_graphic b) (list_all is_graphic bs) first.graphic).0 sign
 
--- joined words are read as these words, where the first doesn't begin with `#`
-pub reads_back : (w : Word) (ws : List Word) → IsWord w → AllByRecursion IsWord ws → eqb (get_or w 0 0) 35 ≡ false → ReadsAs (joined (w ∷ ws)) (w ∷ ws)
-reads_back w ws first more sign = record {
-  words_are = words-joined w ws first more;
-  no_bad_byte = first_bad-joined w ws first more;
-  asks = asks-joined w ws first sign;
+-- at least one word, and the first doesn't begin with `#`
+abbrev pub AreWords : List Word → Type 0
+AreWords [] = ⊥
+AreWords (w ∷ ws) = IsWord w × AllByRecursion IsWord ws × (eqb (get_or w 0 0) 35 ≡ false)
+
+-- joined words hold good bytes alone
+pub good_bytes : (ws : List Word) → AreWords ws → list_all is_good (joined ws) ≡ true
+good_bytes [] are = absurd are
+good_bytes (w ∷ ws) are = good_joined w ws are.0 are.1
+
+-- joined words are read as these words
+pub reads_back : (ws : List Word) → AreWords ws → ReadsAs (joined ws) ws
+reads_back [] are = absurd are
+reads_back (w ∷ ws) are = record {
+  words_are = words-joined w ws are.0 are.1;
+  no_bad_byte = first_bad-joined w ws are.0 are.1;
+  asks = asks-joined w ws are.0 are.2;
 }

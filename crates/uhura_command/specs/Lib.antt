@@ -1,9 +1,14 @@
+pub mod Apply
 pub mod Form
-pub mod Reads
 pub mod Parses
-pub mod Written
+pub mod Reads
+pub mod Replay
+pub mod Script
+pub mod State
+pub mod Verbs
 pub mod Kinds
 pub mod Tails
 pub mod Pairs
-pub mod Verbs
 pub mod Costed
+pub mod Written
+pub mod ParsedBack

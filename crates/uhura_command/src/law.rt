@@ -1,9 +1,18 @@
-//! The laws of the line language: no line has two commands or two causes of refusal, and no command is missed.
-ghost use Rattle.std.specs.Prelude.{◌≡◌, IsTrue, List, Ok, Err};
+//! The laws of the line language: no line has two commands or two causes of refusal, no command is missed or lost, and
+//! a script reads back.
+ghost use Rattle.std.specs.Prelude.{◌≡◌, ℕ, ◌+◌, ◌≤◌, IsTrue, List, length, Option, Some, Result, Ok, Err};
+ghost use Rattle.uhura_command.specs.Script.{commands_of};
+ghost use Rattle.uhura_command.specs.State.{empty_state};
+ghost use Rattle.uhura_command.specs.Replay.{Makes, IsSameUpToSlots, ScriptsReadBack};
+ghost use Rattle.uhura_veto.specs.State.{State};
+ghost use Rattle.uhura_plan.specs.Lists.{Lists};
+ghost use Rattle.uhura_plan.specs.Sound.{IsSound};
 ghost use Rattle.std.specs.declared.alloc.AllocError.{AllocError};
-ghost use Rattle.uhura_command.specs.Form.{Word, Form, IsForm};
+ghost use Rattle.uhura_command.specs.Form.{Word, Form, words_of, IsForm};
 ghost use Rattle.uhura_command.specs.Reads.{form_of, has_numbers, has_names, IsCommand};
-ghost use Rattle.uhura_command.specs.Parses.{ParsesWords};
+ghost use Rattle.uhura_command.specs.Parses.{ParsesWords, Parses};
+ghost use Rattle.uhura_command.specs.ParsedBack.{IsGiven};
+ghost use Rattle.uhura_command.specs.Written.{line_of, ReadsAs};
 ghost use Rattle.uhura_command.specs.declared.command.Command.{Command};
 ghost use Rattle.uhura_command.specs.declared.refusal.LineRefusal.{LineRefusal};
 ghost use Rattle.uhura_command.specs.declared.refusal.LineRefusal.TheVariants.{Memory};
@@ -23,4 +32,18 @@ pub fn no_command_is_missed()
 pub fn no_line_has_two_causes()
     ensures causes { (words : List Word) (r s : LineRefusal) → ParsesWords words (Err r) → ParsesWords words (Err s) → r ≡ s }
     ensures accepted { (words : List Word) (c : Command) (r : LineRefusal) → ParsesWords words (Ok c) → ParsesWords words (Err r) → (error : AllocError) × (r ≡ Memory error) }
+{}
+
+/// A line that is read as the words of a command gives that command, but for want of memory. What is written of a command
+/// has no more bytes, its newline aside, than any line that gives it.
+pub fn no_written_command_is_lost()
+    ensures parsed { (line : List ℕ) (c : Command) (result : Result (Option Command) LineRefusal) → IsCommand c → ReadsAs line (words_of (form_of c)) → length line ≤ 4096 → Parses line result → IsGiven c result }
+    ensures short { (line : List ℕ) (c : Command) → Parses line (Ok (Some c)) → length (line_of (words_of (form_of c))) ≤ length line + 1 }
+{}
+
+/// The commands of a plan make it, one after the other from nothing, up to the slots of its requirements; so does its
+/// canonical script, read line by line.
+pub fn a_script_reads_back()
+    ensures commands { (plan : Lists) → IsSound plan → (last : State) × Makes empty_state (commands_of plan) last × IsSameUpToSlots last.plan plan }
+    ensures script { ScriptsReadBack }
 {}

@@ -1,4 +1,4 @@
-//! The line language: the commands, and how each is written.
+//! The line language: the commands, what a line is parsed to, and how each command is written.
 #![tactic(auto)]
 
 mod command;
@@ -6,9 +6,14 @@ pub mod law;
 mod literals;
 mod parsing;
 mod refusal;
+mod state;
+#[cfg(test)]
+mod tests;
 mod write;
 
 pub use command::{Command, ItemName};
 pub use literals::Literals;
+pub use parsing::parse;
 pub use refusal::LineRefusal;
+pub use state::{State, StateRefusal};
 pub use write::write_command;

@@ -1,8 +1,7 @@
 -- A guard is built literal by literal.
-use Rattle.std.proofs.Common.{◌≡◌, ◌≢◌, ℕ, ◌+◌, ◌<◌, ◌≤◌, Bool, true, false, List, [], ◌∷◌, ◌++◌, length, take, map, get_or, Option, None, Some, is_some, slice_get, bytes_eq, All, IsSomeAnd, eqb, refl, sym, ap, subst, ◌∙◌, true≢false, arith, length-take-le}
-use Rattle.std.specs.List.{list_any, enumerate_from}
+use Rattle.std.proofs.Common.{◌≡◌, ◌≢◌, ℕ, ◌+◌, ◌<◌, ◌≤◌, Bool, true, false, List, [], ◌∷◌, ◌++◌, length, take, map, get_or, Option, None, Some, slice_get, bytes_eq, All, IsSomeAnd, eqb, refl, sym, ap, subst, ◌∙◌, true≢false, arith, length-take-le}
+use Rattle.std.specs.List.{list_any}
 use Rattle.std.proofs.lemmas.List.{length-map, map_push, map_more, get_or-map}
-use Rattle.std.proofs.lemmas.List.FromFn.{length-enumerate_from}
 use Rattle.std.proofs.lemmas.List.Elements.{All-push}
 use Rattle.std.proofs.lemmas.List.Folds.{Any-from_list_any}
 use Rattle.std.proofs.lemmas.List.Quantifiers.{all_pairs_push}
@@ -17,11 +16,11 @@ use Rattle.uhura_plan.specs.Lists.{Lists, choice_names}
 use Rattle.uhura_plan.specs.Guard.{no_literal}
 use Rattle.uhura_plan.specs.Find.{literal_named}
 use Rattle.uhura_plan.specs.Sound.{IsLiteralAmong, IsGuardAmong}
-use Rattle.uhura_plan.specs.Edits.{repeated_at, repeated_in}
-use Rattle.uhura_plan.proofs.Positions.{none_passes, any_passes_at}
+use Rattle.uhura_plan.specs.Refusals.{repeated_at, repeated_in}
+use Rattle.uhura_plan.proofs.Positions.{any_passes_at}
 use Rattle.uhura_plan.proofs.Finds.{same_place, spelled, literal_among}
 use Rattle.uhura_plan.proofs.Refusals.{mapped_none}
-use Rattle.uhura_plan.proofs.Repeats.{repeats, is_repeat, is_repeat-at, repeats-literal}
+use Rattle.uhura_plan.proofs.Repeats.{repeats, never_repeats, repeats-pair}
 
 -- the guard has the literals of these names
 pub record IsBuilt (plan : Lists) (names : List (List ℕ × List ℕ)) (guard : List Literal) : Type 0 where
@@ -36,7 +35,7 @@ built_none plan = record {
 }
 
 -- a literal's choice is within the choices
-choice_within : (choices : List Choice) (literal : Literal) → IsLiteralAmong choices literal → literal.choice < length choices
+pub choice_within : (choices : List Choice) (literal : Literal) → IsLiteralAmong choices literal → literal.choice < length choices
 choice_within choices literal among = by (slice_get choices literal.choice) refl among
   where
     by : (choice : Option Choice) → slice_get choices literal.choice ≡ choice → IsSomeAnd choice (λ c. literal.alternative < length c.alternatives) → literal.choice < length choices
@@ -79,17 +78,8 @@ few_literals choices guard sound =
 
 -- where no choice is named twice, a name stands at one place
 pub not_repeated : (guard : List (List ℕ × List ℕ)) (i : ℕ) → repeated_in guard ≡ None → i < length guard → repeats (map (λ literal. literal.0) guard) i ≡ false
-not_repeated guard i once within = by (repeats names i) refl
-  where
-    names : List (List ℕ)
-    names = map (λ literal. literal.0) guard
-
-    by : (b : Bool) → repeats names i ≡ b → repeats names i ≡ false
-    by true again =
-        let inside : i < length names = omega (arith, within, length-map guard (λ literal. literal.0)) in
-        let none = none_passes (is_repeat names) (enumerate_from 0 names) (ap is_some (mapped_none _ (repeated_at names) once)) in
-        absurd (true≢false (sym (any_passes_at (is_repeat names) (enumerate_from 0 names) i (0, []) (omega (arith, inside, length-enumerate_from 0 names)) (is_repeat-at names i inside ∙ again)) ∙ none))
-    by false e = e
+not_repeated guard i once within =
+    never_repeats (map (λ literal. literal.0) guard) i (mapped_none _ (repeated_at (map (λ literal. literal.0) guard)) once) (omega (arith, within, length-map guard (λ literal. literal.0)))
 
 -- the literal at a place of a built guard is that of the names there
 built_at : (plan : Lists) (names : List (List ℕ × List ℕ)) (guard : List Literal) (k : ℕ) (d : Literal) (e : List ℕ × List ℕ) → IsBuilt plan names guard → k < length guard → Some (get_or guard k d) ≡ literal_named plan (get_or names k e)
@@ -112,7 +102,7 @@ next_new plan names i guard next literal built within is once named = λ k d ins
     let second = (spelled plan next literal named).choice in
     let one_name : next.0 ≡ earlier.0 = same_place (choice_names plan.choices) next.0 earlier.0 literal.choice second (first ∙ ap (λ n. Some n) same) in
     let again = any_passes_at (λ names. bytes_eq next.0 names.0) (take i names) k next (omega (arith, inside, as_long, length-take-le i names (omega (arith, within)))) ((bytes_eq-Decides next.0 earlier.0).1 one_name) in
-    true≢false (sym again ∙ (sym (repeats-literal names i next within is) ∙ not_repeated names i once within))
+    true≢false (sym again ∙ (sym (repeats-pair names i next within is) ∙ not_repeated names i once within))
 
 -- with the next literal the guard is built of one more pair of names
 pub built_next : (plan : Lists) (names : List (List ℕ × List ℕ)) (i : ℕ) (guard : List Literal) (next : List ℕ × List ℕ) (literal : Literal)

@@ -1,5 +1,5 @@
 -- A plan with one more event is sound.
-use Rattle.std.proofs.Common.{◌≡◌, ℕ, ◌+◌, ◌<◌, ◌≤◌, true≢false, false, List, [], ◌∷◌, ◌++◌, length, Contains, bytes_eq, Option, None, Some, is_some, option_map, if◌then◌else◌, refl, sym, ap, subst, ◌∙◌, arith, ⊎_elim}
+use Rattle.std.proofs.Common.{◌≡◌, ℕ, ◌+◌, ◌<◌, ◌≤◌, true≢false, false, List, [], ◌∷◌, ◌++◌, length, Contains, bytes_eq, Option, None, Some, is_some, option_map, refl, sym, ap, subst, ◌∙◌, arith, ⊎_elim}
 use Rattle.indexmap.specs.IndexSet.{insert_key}
 use Rattle.std.specs.Option.{option_or}
 use Rattle.std.specs.Cmp.Lexicographic.{nat_list_eq_equiv}
@@ -17,6 +17,7 @@ use Rattle.uhura_plan.specs.Find.{find_event, place_of}
 use Rattle.uhura_plan.specs.Sound.{IsName, IsEventAmong, HasDistinctNames, IsSoundUncertain, IsSoundRequirement, IsSound}
 use Rattle.uhura_plan.specs.Edits.{with_event}
 use Rattle.uhura_plan.proofs.Positions.{none_passes, not_contained}
+use Rattle.uhura_plan.proofs.Insertions.{insert_key-new}
 
 -- an event stays an event where there are more of them
 pub more_events : (fewer more uncertains : ℕ) (event : EventRef) → fewer ≤ more → IsEventAmong fewer uncertains event → IsEventAmong more uncertains event
@@ -100,18 +101,14 @@ module _ (plan : Lists) (name : List ℕ) (sound : IsSound plan) (new : IsNoEven
     requirements = All-weaker _ _ IsSoundRequirement-more plan.requirements sound.requirements;
   }
 
--- an inserted name that is no event's goes behind the others
-keys-added : (plan : Lists) (keys : List (List ℕ)) (name : List ℕ) → is_some (find_event plan name) ≡ false → keys ≡ insert_key bytes_eq plan.events name → keys ≡ plan.events ++ name ∷ []
-keys-added plan keys name absent inserted =
-    inserted ∙ ap (λ there. if there then plan.events else plan.events ++ name ∷ []) (none_passes (bytes_eq name) plan.events (no_event plan name absent).no_controllable)
-
 module _ (events : List (List ℕ)) (uncertains : List (List ℕ × Uncertain)) (choices : List (List ℕ × Choice)) (requirements : List (List ℕ × Requirement)) (plan : Lists) (keys : List (List ℕ)) (name : List ℕ)
     (view : lists_of events uncertains choices requirements ≡ plan) (absent : is_some (find_event plan name) ≡ false)
     (inserted : keys ≡ insert_key bytes_eq events name) where
   -- the tables hold the plan with this event
   pub view-with_event : lists_of keys uncertains choices requirements ≡ with_event plan name
   view-with_event =
-      ap (λ k. lists_of k uncertains choices requirements) (keys-added (lists_of events uncertains choices requirements) keys name (subst (λ p. is_some (find_event p name) ≡ false) (sym view) absent) inserted)
+      ap (λ k. lists_of k uncertains choices requirements)
+      (inserted ∙ insert_key-new events name (no_event (lists_of events uncertains choices requirements) name (subst (λ p. is_some (find_event p name) ≡ false) (sym view) absent)).no_controllable)
       ∙ ap (λ p. with_event p name) view
 
   -- and it is sound

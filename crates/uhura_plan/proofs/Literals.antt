@@ -9,7 +9,7 @@ use Rattle.uhura_plan.specs.declared.guard.Literal.{Literal}
 use Rattle.uhura_plan.specs.declared.refusal.EditRefusal.TheVariants.{Unknown}
 use Rattle.uhura_plan.specs.Lists.{Lists}
 use Rattle.uhura_plan.specs.Find.{choice_named, alternative_named, literal_named}
-use Rattle.uhura_plan.specs.Edits.{known_pair, known_names, unknown_in, carried}
+use Rattle.uhura_plan.specs.Refusals.{known_pair, known_names, unknown_in, carried}
 
 -- neither of two tests passes where their disjunction doesn't
 pub or_false : (a b : Bool) → (a || b) ≡ false → (a ≡ false) × (b ≡ false)
@@ -42,7 +42,7 @@ pub position_none : {X : Type 0} (p : X → Bool) (xs : List X) → list_any p x
 position_none p xs none = rw (position_or_len_none p xs none) (grind (arith, nat_tests))
 
 -- a function keeps whether there is a value
-is_some-option_map : {X Y : Type 0} (f : X → Y) (o : Option X) → is_some (option_map f o) ≡ is_some o
+pub is_some-option_map : {X Y : Type 0} (f : X → Y) (o : Option X) → is_some (option_map f o) ≡ is_some o
 is_some-option_map f None = refl
 is_some-option_map f (Some x) = refl
 

@@ -1,5 +1,5 @@
--- What holds where a requirement isn't refused.
-use Rattle.std.proofs.Common.{◌≡◌, ℕ, ◌<◌, ◌≤ℤ◌, ℤ, Bool, true, false, not, List, [], ◌∷◌, length, get_or, zero, suc, Option, None, Some, is_some, is_none, position, option_map, int_lt, nat_le, bytes_eq, refl, sym, ap, arith}
+-- What holds where an edit isn't refused.
+use Rattle.std.proofs.Common.{◌≡◌, ℕ, ◌<◌, ◌≤ℤ◌, ℤ, Bool, true, false, not, List, [], ◌∷◌, length, get_or, zero, suc, Option, None, Some, is_some, is_none, IsSome, All, position, option_map, map, int_lt, nat_le, nat_lt, bytes_eq, refl, sym, ap, true≢false, arith, ◌+◌, ◌≤◌}
 use Rattle.std.specs.List.{list_any}
 use Rattle.std.proofs.lemmas.Bool.Decides.{nat_tests}
 use Rattle.std.proofs.lemmas.Int.{ints}
@@ -7,42 +7,23 @@ use Rattle.uhura_plan.specs.declared.requirement.Bounded.{Bounded}
 use Rattle.uhura_plan.specs.declared.refusal.EditRefusal.{EditRefusal}
 use Rattle.uhura_plan.specs.declared.refusal.EditRefusal.TheVariants.{Taken, Unknown, Kind, Empty, Full}
 use Rattle.uhura_plan.specs.Lists.{Lists}
-use Rattle.uhura_plan.specs.Find.{find_event, requirement_named, literal_named}
+use Rattle.uhura_plan.specs.Find.{find_event, uncertain_named, choice_named, requirement_named, literal_named}
 use Rattle.uhura_plan.specs.Limits.{AreOrdered}
-use Rattle.uhura_plan.specs.Edits.{refuse_if, first_of, known_names, unknown_in, repeated_in, empty_between, requirement_refusal}
+use Rattle.uhura_plan.specs.Refusals.{refuse_if, first_of, carried, known_names, unknown_in, repeated_at, repeated_in, empty_between, is_end, event_count, full_of_events, uncertain_refusal, product_with, choice_refusal, requirement_refusal}
 use Rattle.uhura_plan.proofs.Positions.{none_passes}
 use Rattle.uhura_plan.proofs.Literals.{or_false}
 
--- each test of a requirement's refusals fails
-pub record Passes (taken no_from no_to : Bool) (unknown : Option EditRefusal) (one_event : Bool) (empty repeated : Option EditRefusal) (full : Bool) : Type 0 where
-  pub not_taken : taken ≡ false
-  pub from_there : no_from ≡ false
-  pub to_there : no_to ≡ false
-  pub all_known : unknown ≡ None
-  pub two_events : one_event ≡ false
-  pub not_empty : empty ≡ None
-  pub once : repeated ≡ None
-  pub room : full ≡ false
+-- where none is the first refusal there is none
+none_of : (refusals : List (Option EditRefusal)) → first_of refusals ≡ None → (i : ℕ) → get_or refusals i None ≡ None
+none_of [] none i = refl
+none_of (None ∷ later) none zero = refl
+none_of (None ∷ later) none (suc i) = none_of later none i
+none_of (Some r ∷ later) none i = let no : ⊥ = cc in absurd no
 
-passes : (taken no_from no_to : Bool) (unknown : Option EditRefusal) (one_event : Bool) (empty repeated : Option EditRefusal) (full : Bool) (a b c d e : EditRefusal)
-    → first_of (refuse_if taken a ∷ refuse_if no_from b ∷ refuse_if no_to c ∷ unknown ∷ refuse_if one_event d ∷ empty ∷ repeated ∷ refuse_if full e ∷ []) ≡ None
-    → Passes taken no_from no_to unknown one_event empty repeated full
-passes false false false None false None None false a b c d e none = record { not_taken = refl; from_there = refl; to_there = refl; all_known = refl; two_events = refl; not_empty = refl; once = refl; room = refl }
-passes true no_from no_to unknown one_event empty repeated full a b c d e none = let no : ⊥ = cc in absurd no
-passes false true no_to unknown one_event empty repeated full a b c d e none = let no : ⊥ = cc in absurd no
-passes false false true unknown one_event empty repeated full a b c d e none = let no : ⊥ = cc in absurd no
-passes false false false (Some r) one_event empty repeated full a b c d e none = let no : ⊥ = cc in absurd no
-passes false false false None true empty repeated full a b c d e none = let no : ⊥ = cc in absurd no
-passes false false false None false (Some r) repeated full a b c d e none = let no : ⊥ = cc in absurd no
-passes false false false None false None (Some r) full a b c d e none = let no : ⊥ = cc in absurd no
-passes false false false None false None None true a b c d e none = let no : ⊥ = cc in absurd no
-
--- each test of a requirement that isn't refused fails
-pub unrefused : (plan : Lists) (name from to : List ℕ) (lower upper : Bounded) (guard : List (List ℕ × List ℕ)) → requirement_refusal plan name from to lower upper guard ≡ None
-    → Passes (is_some (requirement_named plan name)) (is_none (find_event plan from)) (is_none (find_event plan to)) (unknown_in plan 3 guard) (bytes_eq from to) (empty_between lower.bound upper.bound) (repeated_in guard) (nat_le 2048 (length plan.requirements))
-unrefused plan name from to lower upper guard none =
-    passes (is_some (requirement_named plan name)) (is_none (find_event plan from)) (is_none (find_event plan to)) (unknown_in plan 3 guard) (bytes_eq from to) (empty_between lower.bound upper.bound) (repeated_in guard) (nat_le 2048 (length plan.requirements))
-    Taken (Unknown 1) (Unknown 2) Kind (Full 2048 (length plan.requirements)) none
+-- a test without its refusal fails
+test_fails : (test : Bool) (refusal : EditRefusal) → refuse_if test refusal ≡ None → test ≡ false
+test_fails true refusal none = let no : ⊥ = cc in absurd no
+test_fails false refusal none = refl
 
 -- bounds that aren't refused are in order
 pub bounds_ordered : (lower upper : Option ℤ) → empty_between lower upper ≡ None → AreOrdered lower upper
@@ -54,6 +35,108 @@ bounds_ordered (Some lower) (Some upper) none = by (int_lt upper lower) refl non
 bounds_ordered (Some lower) None none = tt
 bounds_ordered None (Some upper) none = tt
 bounds_ordered None None none = tt
+
+-- a limit that isn't reached leaves room
+room_left : (n limit : ℕ) → refuse_if (nat_le limit n) (Full limit n) ≡ None → n < limit
+room_left n limit none = let full = test_fails (nat_le limit n) (Full limit n) none in grind (arith, nat_tests)
+
+-- a limit that isn't passed bounds the number
+within_limit : (n limit : ℕ) (refusal : EditRefusal) → refuse_if (nat_lt limit n) refusal ≡ None → n ≤ limit
+within_limit n limit refusal none = let over = test_fails (nat_lt limit n) refusal none in grind (arith, nat_tests)
+
+-- where 512 events and ends aren't there, there is room for one more
+pub event_room : (plan : Lists) → full_of_events plan ≡ None → event_count plan < 512
+event_room plan none = room_left (event_count plan) 512 none
+
+-- what a duration that isn't refused meets
+pub record IsUnrefusedUncertain (plan : Lists) (name start end : List ℕ) (lower upper : ℤ) : Type 0 where
+  pub name_free : is_some (uncertain_named plan name) ≡ false
+  pub end_free : is_some (find_event plan end) ≡ false
+  pub ordered : lower ≤ℤ upper
+  pub room : length plan.uncertains < 256
+  pub event_room : event_count plan < 512
+
+pub unrefused_uncertain : (plan : Lists) (name start end : List ℕ) (lower upper : ℤ) → uncertain_refusal plan name start end lower upper ≡ None → IsUnrefusedUncertain plan name start end lower upper
+unrefused_uncertain plan name start end lower upper none =
+    let passed = none_of (
+    refuse_if (is_some (uncertain_named plan name)) Taken
+    ∷ refuse_if (is_some (find_event plan end)) Taken
+    ∷ refuse_if (bytes_eq end start) Taken
+    ∷ refuse_if (is_none (find_event plan start)) (Unknown 1)
+    ∷ refuse_if (is_end (find_event plan start)) Kind
+    ∷ empty_between (Some lower) (Some upper)
+    ∷ refuse_if (nat_le 256 (length plan.uncertains)) (Full 256 (length plan.uncertains))
+    ∷ full_of_events plan
+    ∷ []) none in
+    record {
+      name_free = test_fails (is_some (uncertain_named plan name)) Taken (passed 0);
+      end_free = test_fails (is_some (find_event plan end)) Taken (passed 1);
+      ordered = bounds_ordered (Some lower) (Some upper) (passed 5);
+      room = room_left (length plan.uncertains) 256 (passed 6);
+      event_room = event_room plan (passed 7);
+    }
+
+no_value : {X : Type 0} (o : Option X) → is_some o ≡ false → o ≡ None
+no_value None none = refl
+no_value (Some x) none = absurd (true≢false none)
+
+-- what a choice that isn't refused meets
+pub record IsUnrefusedChoice (plan : Lists) (name : List ℕ) (alternatives : List (List ℕ × ℕ)) (guard : List (List ℕ × List ℕ)) : Type 0 where
+  pub name_free : is_some (choice_named plan name) ≡ false
+  pub names_once : repeated_at (map (λ a. a.0) alternatives) ≡ None
+  pub known : unknown_in plan (1 + length alternatives) guard ≡ None
+  pub room : length plan.choices < 16
+  pub few : length alternatives ≤ 16
+  pub product : product_with plan alternatives ≤ 65536
+
+pub unrefused_choice : (plan : Lists) (name : List ℕ) (alternatives : List (List ℕ × ℕ)) (guard : List (List ℕ × List ℕ)) → choice_refusal plan name alternatives guard ≡ None → IsUnrefusedChoice plan name alternatives guard
+unrefused_choice plan name alternatives guard none =
+    let passed = none_of (
+    refuse_if (is_some (choice_named plan name)) Taken
+    ∷ refuse_if (is_some (repeated_at (map (λ a. a.0) alternatives))) Taken
+    ∷ unknown_in plan (1 + length alternatives) guard
+    ∷ repeated_in guard
+    ∷ refuse_if (nat_le 16 (length plan.choices)) (Full 16 (length plan.choices))
+    ∷ refuse_if (nat_lt 16 (length alternatives)) (Full 16 (carried (length alternatives)))
+    ∷ refuse_if (nat_lt 65536 (product_with plan alternatives)) (Full 65536 (product_with plan alternatives))
+    ∷ []) none in
+    record {
+      name_free = test_fails (is_some (choice_named plan name)) Taken (passed 0);
+      names_once = no_value _ (test_fails (is_some (repeated_at (map (λ a. a.0) alternatives))) Taken (passed 1));
+      known = passed 2;
+      room = room_left (length plan.choices) 16 (passed 4);
+      few = within_limit (length alternatives) 16 (Full 16 (carried (length alternatives))) (passed 5);
+      product = within_limit (product_with plan alternatives) 65536 (Full 65536 (product_with plan alternatives)) (passed 6);
+    }
+
+-- what a requirement that isn't refused meets
+pub record IsUnrefusedRequirement (plan : Lists) (name from to : List ℕ) (lower upper : Bounded) (guard : List (List ℕ × List ℕ)) : Type 0 where
+  pub name_free : is_some (requirement_named plan name) ≡ false
+  pub known : unknown_in plan 3 guard ≡ None
+  pub two_events : bytes_eq from to ≡ false
+  pub ordered : AreOrdered lower.bound upper.bound
+  pub room : length plan.requirements < 2048
+
+pub unrefused_requirement : (plan : Lists) (name from to : List ℕ) (lower upper : Bounded) (guard : List (List ℕ × List ℕ)) → requirement_refusal plan name from to lower upper guard ≡ None
+    → IsUnrefusedRequirement plan name from to lower upper guard
+unrefused_requirement plan name from to lower upper guard none =
+    let passed = none_of (
+    refuse_if (is_some (requirement_named plan name)) Taken
+    ∷ refuse_if (is_none (find_event plan from)) (Unknown 1)
+    ∷ refuse_if (is_none (find_event plan to)) (Unknown 2)
+    ∷ unknown_in plan 3 guard
+    ∷ refuse_if (bytes_eq from to) Kind
+    ∷ empty_between lower.bound upper.bound
+    ∷ repeated_in guard
+    ∷ refuse_if (nat_le 2048 (length plan.requirements)) (Full 2048 (length plan.requirements))
+    ∷ []) none in
+    record {
+      name_free = test_fails (is_some (requirement_named plan name)) Taken (passed 0);
+      known = passed 3;
+      two_events = test_fails (bytes_eq from to) Kind (passed 4);
+      ordered = bounds_ordered lower.bound upper.bound (passed 5);
+      room = room_left (length plan.requirements) 2048 (passed 7);
+    }
 
 -- no value comes from none
 pub mapped_none : {X Y : Type 0} (f : X → Y) (o : Option X) → option_map f o ≡ None → o ≡ None
@@ -70,6 +153,6 @@ known_literal plan [] i d known within = absurd (omega (arith, within))
 known_literal plan (names ∷ guard) zero d known within = not_true _ (or_false _ _ (or_false _ _ known).1).0
 known_literal plan (names ∷ guard) (suc i) d known within = known_literal plan guard i d (or_false _ _ (or_false _ _ known).1).1 (omega (arith, within))
 
-pub literal_known : (plan : Lists) (before : ℕ) (guard : List (List ℕ × List ℕ)) (i : ℕ) (d : List ℕ × List ℕ) → unknown_in plan before guard ≡ None → i < length guard → is_some (literal_named plan (get_or guard i d)) ≡ true
-literal_known plan before guard i d none within =
+pub all_known : (plan : Lists) (before : ℕ) (guard : List (List ℕ × List ℕ)) → unknown_in plan before guard ≡ None → All (λ names. IsSome (literal_named plan names)) guard
+all_known plan before guard none = λ i d within.
     known_literal plan guard i d (none_passes not (known_names plan guard) (ap is_some (mapped_none _ (position not (known_names plan guard)) none))) within

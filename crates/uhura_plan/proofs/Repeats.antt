@@ -1,11 +1,16 @@
--- Which choice of a guard is named twice.
-use Rattle.std.proofs.Common.{◌≡◌, ℕ, ◌<◌, ◌≤◌, Bool, true, false, List, [], ◌∷◌, length, take, map, get_or, None, Some, bytes_eq, refl, sym, ap, ◌∙◌, arith, zero-add}
+-- Which name of a list stands twice.
+use Rattle.std.proofs.Common.{◌≡◌, ℕ, ◌<◌, ◌≤◌, Bool, true, false, List, [], ◌∷◌, length, take, map, get_or, None, Some, is_some, bytes_eq, refl, sym, ap, ◌∙◌, true≢false, arith, zero-add, length-take-le}
 use Rattle.std.specs.List.{list_any, enumerate_from, position_or_len}
 use Rattle.std.proofs.lemmas.Bool.Decides.{nat_tests}
-use Rattle.std.proofs.lemmas.List.{get_or-map, take-map}
+use Rattle.std.proofs.lemmas.Grind.{common_steps}
+use Rattle.std.proofs.lemmas.List.{get_or-map, get_or-take, take-map}
 use Rattle.std.proofs.lemmas.List.FromFn.{get_or-enumerate_from, length-enumerate_from}
 use Rattle.std.proofs.lemmas.List.Sums.{position_or_len_is}
-use Rattle.uhura_plan.specs.Edits.{repeated_at}
+use Rattle.std.proofs.lemmas.Map.Keys.{IsDistinct-from_apart}
+use Rattle.std.proofs.lemmas.Slice.Eq.{bytes_eq-Decides}
+use Rattle.uhura_plan.specs.Sound.{AreDistinct}
+use Rattle.uhura_plan.specs.Refusals.{repeated_at}
+use Rattle.uhura_plan.proofs.Positions.{none_passes, any_passes_at}
 
 -- whether the name at a place stands before it too
 abbrev pub repeats : List (List ℕ) → ℕ → Bool
@@ -41,15 +46,41 @@ repeated_at-none names none =
     let all : length (enumerate_from 0 names) ≡ length names = length-enumerate_from 0 names in
     rw found (grind (arith, nat_tests))
 
+-- where no repeat is found, no place repeats
+pub never_repeats : (names : List (List ℕ)) (i : ℕ) → repeated_at names ≡ None → i < length names → repeats names i ≡ false
+never_repeats names i once within = by (repeats names i) refl
+  where
+    by : (b : Bool) → repeats names i ≡ b → repeats names i ≡ false
+    by true again =
+        let none = none_passes (is_repeat names) (enumerate_from 0 names) (ap is_some once) in
+        absurd (true≢false (sym (any_passes_at (is_repeat names) (enumerate_from 0 names) i (0, []) (omega (arith, within, length-enumerate_from 0 names)) (is_repeat-at names i within ∙ again)) ∙ none))
+    by false e = e
+
+-- names of which none repeats are distinct
+pub AreDistinct-once : (names : List (List ℕ)) → repeated_at names ≡ None → AreDistinct names
+AreDistinct-once names once = IsDistinct-from_apart bytes_eq names apart
+  where
+    apart : (i j : ℕ) (d : List ℕ) → i < j → j < length names → bytes_eq (get_or names i d) (get_or names j d) ≡ false
+    apart i j d before within = by (bytes_eq (get_or names i d) (get_or names j d)) refl
+      where
+        by : (b : Bool) → bytes_eq (get_or names i d) (get_or names j d) ≡ b → bytes_eq (get_or names i d) (get_or names j d) ≡ false
+        by true same =
+            let inside : i < length (take j names) = omega (arith, before, within, length-take-le j names (omega (arith, within))) in
+            let later : get_or names j [] ≡ get_or names j d = grind (arith, common_steps) in
+            let equal : get_or names j [] ≡ get_or (take j names) i d =
+            later ∙ (sym ((bytes_eq-Decides _ _).0 same) ∙ sym (get_or-take j names i d before)) in
+            absurd (true≢false (sym (any_passes_at (bytes_eq (get_or names j [])) (take j names) i d inside ((bytes_eq-Decides _ _).1 equal)) ∙ never_repeats names j once within))
+        by false e = e
+
 -- a test of mapped elements is a test of the elements
 pub list_any-map : {X Y : Type 0} (p : Y → Bool) (f : X → Y) (xs : List X) → list_any p (map f xs) ≡ list_any (λ x. p (f x)) xs
 list_any-map p f [] = refl
 list_any-map p f (x ∷ xs) = rw (list_any-map p f xs) refl
 
--- whether a literal's choice is named before it
-pub repeats-literal : (guard : List (List ℕ × List ℕ)) (i : ℕ) (names : List ℕ × List ℕ) → i < length guard → names ≡ get_or guard i names →
-    repeats (map (λ literal. literal.0) guard) i ≡ list_any (λ literal. bytes_eq names.0 literal.0) (take i guard)
-repeats-literal guard i names within is =
-    ap (λ name. list_any (bytes_eq name) (take i (map (λ literal. literal.0) guard))) (get_or-map (λ literal. literal.0) guard i names [] within ∙ ap (λ n. n.0) (sym is))
-    ∙ (ap (list_any (bytes_eq names.0)) (take-map (λ literal. literal.0) i guard)
-    ∙ list_any-map (bytes_eq names.0) (λ literal. literal.0) (take i guard))
+-- whether a pair's name stands before it too
+pub repeats-pair : {X : Type 0} (named : List (List ℕ × X)) (i : ℕ) (pair : List ℕ × X) → i < length named → pair ≡ get_or named i pair →
+    repeats (map (λ p. p.0) named) i ≡ list_any (λ p. bytes_eq pair.0 p.0) (take i named)
+repeats-pair named i pair within is =
+    ap (λ name. list_any (bytes_eq name) (take i (map (λ p. p.0) named))) (get_or-map (λ p. p.0) named i pair [] within ∙ ap (λ n. n.0) (sym is))
+    ∙ (ap (list_any (bytes_eq pair.0)) (take-map (λ p. p.0) i named)
+    ∙ list_any-map (bytes_eq pair.0) (λ p. p.0) (take i named))

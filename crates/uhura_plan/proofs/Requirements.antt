@@ -1,10 +1,8 @@
 -- A plan with one more requirement is sound.
-use Rattle.std.proofs.Common.{◌≡◌, ◌≢◌, ℕ, ◌<◌, false, List, [], ◌∷◌, ◌++◌, length, get_or, None, Some, is_some, Contains, bytes_eq, refl, sym, ap, subst, ◌∙◌, true≢false, arith}
-use Rattle.std.specs.List.{list_any}
-use Rattle.std.specs.Map.{keys_of, values_of}
+use Rattle.std.proofs.Common.{◌≡◌, ◌≢◌, ℕ, ◌<◌, false, List, [], ◌∷◌, ◌++◌, length, get_or, None, Some, is_some, Contains, bytes_eq, sym, ap, subst, ◌∙◌, true≢false, arith}
+use Rattle.std.specs.Map.{values_of}
 use Rattle.std.specs.Cmp.Lexicographic.{nat_list_eq_equiv}
 use Rattle.indexmap.specs.IndexMap.{insert_entry}
-use Rattle.std.proofs.lemmas.Bool.Decides.{nat_tests}
 use Rattle.std.proofs.lemmas.List.{length_push, map_push}
 use Rattle.std.proofs.lemmas.List.Elements.{All-push, All-weaker, Contains-get_or}
 use Rattle.std.proofs.lemmas.List.Quantifiers.{all_pairs_push}
@@ -19,11 +17,12 @@ use Rattle.uhura_plan.specs.Find.{place_of, requirement_named}
 use Rattle.uhura_plan.specs.Limits.{AreWithinLimits, AreOrdered}
 use Rattle.uhura_plan.specs.Sound.{IsName, AreDistinct, IsGuardAmong, IsSoundRequirement, HasDistinctNames, IsSound}
 use Rattle.uhura_plan.specs.Tables.{lists_of, HoldsPlan}
-use Rattle.uhura_plan.specs.Edits.{requirement_refusal, IsRequirementOf, with_requirement}
+use Rattle.uhura_plan.specs.Edits.{IsRequirementOf, with_requirement}
+use Rattle.uhura_plan.specs.Refusals.{requirement_refusal}
 use Rattle.uhura_plan.proofs.Positions.{none_passes}
+use Rattle.uhura_plan.proofs.Insertions.{values_added, keys_added}
 use Rattle.uhura_plan.proofs.Finds.{event_among, same_event}
-use Rattle.uhura_plan.proofs.Refusals.{unrefused, bounds_ordered}
-use Rattle.uhura_plan.proofs.Literals.{or_false}
+use Rattle.uhura_plan.proofs.Refusals.{unrefused_requirement}
 
 -- bounds stay in order where they are named anew
 ordered_along : (lower upper lower' upper' : Bounded) → lower' ≡ lower → upper' ≡ upper → AreOrdered lower.bound upper.bound → AreOrdered lower'.bound upper'.bound
@@ -36,7 +35,7 @@ module _ (plan : Lists) (name from to : List ℕ) (lower upper : Bounded) (guard
   HasDistinctNames-with_requirement : HasDistinctNames (with_requirement plan made)
   HasDistinctNames-with_requirement =
       let free : is_some (requirement_named plan made.name) ≡ false =
-      ap (λ n. is_some (requirement_named plan n)) stated.same_name ∙ (unrefused plan name from to lower upper guard none).not_taken in
+      ap (λ n. is_some (requirement_named plan n)) stated.same_name ∙ (unrefused_requirement plan name from to lower upper guard none).name_free in
       record {
         events = sound.distinct.events;
         ends = sound.distinct.ends;
@@ -80,18 +79,18 @@ module _ (plan : Lists) (name from to : List ℕ) (lower upper : Bounded) (guard
       two_events = λ same.
           true≢false
           (sym ((bytes_eq-Decides from to).1 (same_event plan from to made.from stated.found_from (ap (λ e. Some e) same ∙ stated.found_to)))
-          ∙ (unrefused plan name from to lower upper guard none).two_events);
+          ∙ (unrefused_requirement plan name from to lower upper guard none).two_events);
       lower = subst AreWithinLimits (sym stated.same_lower) within_lower;
       upper = subst AreWithinLimits (sym stated.same_upper) within_upper;
       ordered = ordered_along lower upper made.lower made.upper stated.same_lower stated.same_upper
-          (bounds_ordered lower.bound upper.bound (unrefused plan name from to lower upper guard none).not_empty);
+          (unrefused_requirement plan name from to lower upper guard none).ordered;
       guard = among;
     }
 
     -- the plan stays sound
     pub IsSound-with_requirement : IsSound (with_requirement plan made)
     IsSound-with_requirement =
-        let room : length plan.requirements < 2048 = let full = (unrefused plan name from to lower upper guard none).room in grind (arith, nat_tests) in
+        let room = (unrefused_requirement plan name from to lower upper guard none).room in
         record {
           counts = record {
             events = sound.counts.events;
@@ -109,44 +108,23 @@ module _ (plan : Lists) (name from to : List ℕ) (lower upper : Bounded) (guard
               (All-weaker _ _ IsSoundRequirement-earlier plan.requirements sound.requirements) IsSoundRequirement-made;
         }
 
--- a new key goes behind the others
-insert_new : (entries : List (List ℕ × Requirement)) (name : List ℕ) (made : Requirement) → list_any (bytes_eq name) (keys_of entries) ≡ false → insert_entry bytes_eq entries name made ≡ entries ++ (name, made) ∷ []
-insert_new [] name made none = refl
-insert_new (entry ∷ entries) name made none =
-    let fails = or_false (bytes_eq name entry.0) (list_any (bytes_eq name) (keys_of entries)) none in
-    rw fails.0 (ap (λ es. entry ∷ es) (insert_new entries name made fails.1))
-
 module _ (events : List (List ℕ)) (uncertains : List (List ℕ × Uncertain)) (choices : List (List ℕ × Choice)) (entries : List (List ℕ × Requirement)) (plan : Lists) (inserted : List (List ℕ × Requirement))
     (name from to : List ℕ) (lower upper : Bounded) (guard : List (List ℕ × List ℕ)) (made : Requirement) (ends : List (List ℕ))
     (view : lists_of events uncertains choices entries ≡ plan) (held : HoldsPlan events ends uncertains choices entries) (is : inserted ≡ insert_entry bytes_eq entries name made)
     (none : requirement_refusal plan name from to lower upper guard ≡ None) (stated : IsRequirementOf plan name from to lower upper guard made) where
-  -- an inserted name that is no requirement's goes behind the others
-  entries_added : inserted ≡ entries ++ (name, made) ∷ []
-  entries_added =
-      let free : is_some (place_of (requirement_names (values_of entries)) name) ≡ false =
-      ap (λ p. is_some (requirement_named p name)) view ∙ (unrefused plan name from to lower upper guard none).not_taken in
-      let new : list_any (bytes_eq name) (keys_of entries) ≡ false =
-      ap (list_any (bytes_eq name)) held.requirement_keys ∙ none_passes (bytes_eq name) (requirement_names (values_of entries)) free in
-      is ∙ insert_new entries name made new
+  -- the name is no requirement's in the tables
+  free : is_some (place_of (requirement_names (values_of entries)) name) ≡ false
+  free = ap (λ p. is_some (requirement_named p name)) view ∙ (unrefused_requirement plan name from to lower upper guard none).name_free
 
-  -- so does the requirement
-  values_added : values_of inserted ≡ values_of entries ++ made ∷ []
-  values_added = ap values_of entries_added ∙ map_push (λ e. e.1) entries (name, made)
+  -- the requirement goes behind the others
+  requirements_added : values_of inserted ≡ values_of entries ++ made ∷ []
+  requirements_added = values_added (λ r. r.name) entries inserted name made held.requirement_keys is free
 
   -- the tables hold the plan with this requirement
   pub view-with_requirement : lists_of events uncertains choices inserted ≡ with_requirement plan made
   view-with_requirement =
       let Made : List Requirement → Lists = λ rs. record { events = events; uncertains = values_of uncertains; choices = values_of choices; requirements = rs } in
-      ap Made values_added ∙ ap (λ p. with_requirement p made) view
-
-  -- under its name
-  keys_added : keys_of inserted ≡ requirement_names (values_of inserted)
-  keys_added =
-      ap keys_of entries_added ∙ (map_push (λ e. e.0) entries (name, made)
-      ∙ (ap (λ names. names ++ name ∷ []) held.requirement_keys
-      ∙ (ap (λ n. requirement_names (values_of entries) ++ n ∷ []) (sym stated.same_name)
-      ∙ (sym (map_push (λ r. r.name) (values_of entries) made)
-      ∙ ap requirement_names (sym values_added)))))
+      ap Made requirements_added ∙ ap (λ p. with_requirement p made) view
 
   -- and it is sound
   pub HoldsPlan-with_requirement : IsName name → AreWithinLimits lower → AreWithinLimits upper → IsGuardAmong plan.choices made.guard → made.slot < 2048 → HoldsPlan events ends uncertains choices inserted
@@ -154,7 +132,7 @@ module _ (events : List (List ℕ)) (uncertains : List (List ℕ × Uncertain)) 
     end_keys = held.end_keys;
     uncertain_keys = held.uncertain_keys;
     choice_keys = held.choice_keys;
-    requirement_keys = keys_added;
+    requirement_keys = keys_added (λ r. r.name) entries inserted name made held.requirement_keys is free stated.same_name;
     sound = subst IsSound (sym view-with_requirement)
         (IsSound-with_requirement plan name from to lower upper guard made (subst IsSound view held.sound) none stated named within_lower within_upper among below);
   }

@@ -1,3 +1,4 @@
+pub mod Changes
 pub mod Edits
 pub mod Find
 pub mod Guard
@@ -5,6 +6,7 @@ pub mod Limits
 pub mod Lists
 pub mod Name
 pub mod Padded
+pub mod Refusals
 pub mod Slots
 pub mod Sound
 pub mod Tables

@@ -8,6 +8,11 @@ pub record IsBound (bound : ℤ) : Type 0 where
   pub least : negsuc 999999999 ≤ℤ bound
   pub most : bound ≤ℤ pos 1000000000
 
+-- an end of a duration's range is from 0 to 1,000,000,000
+pub record IsRangeEnd (end : ℤ) : Type 0 where
+  pub least : pos 0 ≤ℤ end
+  pub most : end ≤ℤ pos 1000000000
+
 -- a price for one unit is from 1 to 1,000,000
 pub record IsRate (rate : ℕ) : Type 0 where
   pub least : 1 ≤ rate

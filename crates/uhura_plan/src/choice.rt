@@ -1,12 +1,15 @@
 //! A discrete choice among named alternatives.
-ghost use Rattle.std.specs.Prelude.{◌≡◌, ◌≤◌, length, map, position, bytes_eq};
+ghost use Rattle.std.specs.Prelude.{◌≡◌, ◌≤◌, length, map, position, is_some, bytes_eq, All, IfOk, OnOk};
+ghost use Rattle.uhura_plan.specs.Changes.{costs_with};
 ghost use Rattle.uhura_plan.specs.Find.{place_of};
+ghost use Rattle.uhura_plan.specs.Sound.{IsName, AreDistinct};
 
 use crate::{Guard, Name};
+use std::alloc::{AllocError, Global};
 use std::marker::Model;
 
 /// The alternatives of a choice in order, each with its cost.
-#[derive(Drop)]
+#[derive(Clone, Drop)]
 pub struct Alternatives {
     pairs: Vec<(Name, u32)>,
 }
@@ -27,6 +30,22 @@ impl Alternatives {
         Alternatives { pairs }
     }
 
+    /// A copy of the pairs. By their type their names are names, as a plan keeps.
+    pub(crate) fn from_slice(
+        alloc: Global,
+        pairs: &[(Name, u32)],
+    ) -> Result<Alternatives, AllocError>
+        ensures same { IfOk result (λ copy. copy ≡ pairs.now) }
+        ensures names { OnOk result (All (λ a. IsName a.0) pairs.now) }
+    {
+        let mut copy = Vec::with_capacity(alloc, pairs.len())?;
+        for (name, cost) in pairs {
+            let _ = name.bytes();
+            copy.push((*name, *cost))?;
+        }
+        Ok(Alternatives { pairs: copy })
+    }
+
     /// Gives the `Vec` back.
     pub fn into_vec(self) -> Vec<(Name, u32)>
         ensures { result.items ≡ self }
@@ -39,6 +58,21 @@ impl Alternatives {
         ensures { result.now ≡ self.now }
     {
         self.pairs.as_slice()
+    }
+
+    /// Sets the cost of the alternative of this name, and says whether it is there.
+    pub(crate) fn set_cost(&mut self, name: Name, cost: u32) -> bool
+        requires { AreDistinct (map (λ a. a.0) self.old) }
+        ensures found { result ≡ is_some (place_of (map (λ a. a.0) self.old) name) }
+        ensures costs { self.new ≡ costs_with name cost self.old }
+    {
+        match pair_named(self.pairs.as_slice(), name) {
+            Some(place) => {
+                self.pairs[place].1 = cost;
+                true
+            }
+            None => false,
+        }
     }
 }
 
@@ -61,7 +95,7 @@ pub(crate) fn alternative_place(alternatives: &[(Name, u32)], name: Name) -> Opt
 }
 
 /// A choice: it is made where its guard holds, and its guard names earlier choices alone.
-#[derive(Drop)]
+#[derive(Clone, Drop)]
 pub struct Choice {
     pub name: Name,
     pub alternatives: Alternatives,

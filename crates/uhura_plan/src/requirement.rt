@@ -1,5 +1,8 @@
 //! A bound on the difference of two event times, from below, from above or both.
-use crate::{EventRef, Guard, Name};
+ghost use Rattle.std.specs.Prelude.{◌≡◌};
+ghost use Rattle.uhura_plan.specs.Changes.{with_bound, with_price};
+
+use crate::{EventRef, Guard, Name, Side};
 
 /// The price of loosening a side by one unit, from 1 to 1,000,000, and the most units it may be loosened by.
 #[derive(Clone, Copy, Debug, PartialEq, Eq)]
@@ -18,7 +21,7 @@ pub struct Bounded {
 
 /// The time of `to` minus the time of `from` is at least the lower bound and at most the upper bound,
 /// where the guard holds. The slot stays with the requirement for as long as it is in the plan.
-#[derive(Drop)]
+#[derive(Clone, Drop)]
 pub struct Requirement {
     pub name: Name,
     pub slot: u32,
@@ -27,4 +30,37 @@ pub struct Requirement {
     pub lower: Bounded,
     pub upper: Bounded,
     pub guard: Guard,
+}
+
+impl Requirement {
+    /// The lower and the upper bound, where the side has this one.
+    pub(crate) fn bounds_with(&self, side: Side, bound: Option<i64>) -> (Option<i64>, Option<i64>)
+        ensures lower { result.0 ≡ (with_bound side bound self.now).lower.bound }
+        ensures upper { result.1 ≡ (with_bound side bound self.now).upper.bound }
+    {
+        match side {
+            Side::Lower => (bound, self.upper.bound),
+            Side::Upper => (self.lower.bound, bound),
+        }
+    }
+
+    /// Puts the bound on the side.
+    pub(crate) fn set_bound(&mut self, side: Side, bound: Option<i64>)
+        ensures { self.new ≡ with_bound side bound self.old }
+    {
+        match side {
+            Side::Lower => self.lower.bound = bound,
+            Side::Upper => self.upper.bound = bound,
+        }
+    }
+
+    /// Puts the price on the side.
+    pub(crate) fn set_price(&mut self, side: Side, price: Option<Price>)
+        ensures { self.new ≡ with_price side price self.old }
+    {
+        match side {
+            Side::Lower => self.lower.price = price,
+            Side::Upper => self.upper.price = price,
+        }
+    }
 }

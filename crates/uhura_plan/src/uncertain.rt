@@ -1,9 +1,12 @@
 //! A duration that nature picks.
-use crate::Name;
+ghost use Rattle.std.specs.Prelude.{◌≡◌};
+ghost use Rattle.uhura_plan.specs.Changes.{with_rate, with_range};
+
+use crate::{Name, Side};
 
 /// A duration from the controllable event `start` to its own end, from `lower` to `upper` units long.
 /// A side with a rate may be narrowed at that price a unit.
-#[derive(Drop)]
+#[derive(Clone, Drop)]
 pub struct Uncertain {
     pub name: Name,
     pub start: u32,
@@ -12,4 +15,24 @@ pub struct Uncertain {
     pub upper: i64,
     pub lower_rate: Option<u32>,
     pub upper_rate: Option<u32>,
+}
+
+impl Uncertain {
+    /// Puts the rate on the side.
+    pub(crate) fn set_rate(&mut self, side: Side, rate: Option<u32>)
+        ensures { self.new ≡ with_rate side rate self.old }
+    {
+        match side {
+            Side::Lower => self.lower_rate = rate,
+            Side::Upper => self.upper_rate = rate,
+        }
+    }
+
+    /// Sets both ends of the range.
+    pub(crate) fn set_range(&mut self, lower: i64, upper: i64)
+        ensures { self.new ≡ with_range lower upper self.old }
+    {
+        self.lower = lower;
+        self.upper = upper;
+    }
 }

@@ -2,10 +2,16 @@ pub mod Sums
 pub mod Descent
 pub mod Passing
 pub mod Rounds
+pub mod WholeTimes
 pub mod PlainMeets
 pub mod PlainBest
 pub mod Walk
+pub mod Ranks
+pub mod FirstCheapest
 pub mod PlainBounds
+pub mod PickLines
 pub mod PlainText
-pub mod PlainEdits
 pub mod Conversing
+pub mod PlainTest
+pub mod AnswersEdits
+pub mod ShowReplays

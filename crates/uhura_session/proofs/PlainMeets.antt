@@ -1,7 +1,9 @@
--- In a plain plan a schedule without loosening meets the requirements exactly where it meets their constraints.
-use Rattle.std.proofs.Common.{◌≡◌, ℕ, suc, ◌*◌, List, [], ◌∷◌, ◌++◌, refl, ap, sym, subst, arith, Option}
-use Rattle.std.specs.Prelude.{ℤ, pos, negsuc, neg_ℤ, ◌+ℤ◌, ◌-ℤ◌, ◌*ℤ◌, ◌≤ℤ◌, None, Some, IfSome}
+-- In a plain plan a schedule without loosening meets the requirements that are active in a branch exactly where it meets
+-- their constraints; and times in k-ths that meet them do so in whole units.
+use Rattle.std.proofs.Common.{◌≡◌, ℕ, ◌≤◌, List, [], ◌∷◌, ◌++◌, refl, sym, subst, arith, Option}
+use Rattle.std.specs.Prelude.{ℤ, pos, neg_ℤ, ◌+ℤ◌, ◌-ℤ◌, ◌*ℤ◌, ◌≤ℤ◌, None, Some, IfSome, IsTrue}
 use Rattle.std.specs.List.{All}
+use Rattle.std.proofs.lemmas.Bool.{cond-true, cond_both}
 use Rattle.std.proofs.lemmas.Int.{ints}
 use Rattle.std.proofs.lemmas.List.Elements.{All-nil, All-cons, All-head, All-tail, All-append}
 use Rattle.std.proofs.lemmas.List.Concat.{flat_map-cons}
@@ -10,14 +12,14 @@ use Rattle.uhura_plan.specs.declared.key.Side.TheVariants.{Lower, Upper}
 use Rattle.uhura_plan.specs.declared.key.EventRef.{EventRef}
 use Rattle.uhura_plan.specs.declared.key.EventRef.TheVariants.{Controllable, End}
 use Rattle.uhura_plan.specs.declared.requirement.Requirement.{Requirement}
+use Rattle.uhura_choice.specs.declared.prefix.Pick.{Pick}
+use Rattle.uhura_choice.specs.Branch.{holds}
+use Rattle.uhura_net.proofs.Scaled.{once}
 use Rattle.uhura_worst.specs.Proposal.{Proposal, loosened, time_of, IsWithin}
+use Rattle.uhura_session.specs.declared.schedule.Constraint.{Constraint}
 use Rattle.uhura_session.specs.Schedule.{Holds, IsSolution}
-use Rattle.uhura_session.specs.Plain.{IsControllable, IsPlainRequirement, node_of, lower_constraint, upper_constraint, constraints_of, all_constraints}
-
--- scale 1 changes nothing
-pub once : (z : ℤ) → pos 1 *ℤ z ≡ z
-once (pos n) = ap pos (omega arith)
-once (negsuc n) = ap (λ m. neg_ℤ (pos m)) (let e : 1 * suc n ≡ suc n = omega arith in e)
+use Rattle.uhura_session.specs.Plain.{IsControllable, IsPlainRequirement, node_of, lower_constraint, upper_constraint, constraints_of, active_constraints, branch_constraints}
+use Rattle.uhura_session.proofs.WholeTimes.{whole_of, whole-once, whole-after, whole-within}
 
 -- the bounds of a requirement, not loosened, on the times of its two events
 pub record IsMet (r : Requirement) (s : ℕ → ℤ) : Type 0 where
@@ -53,28 +55,39 @@ back_of_all : {X : Type 0} (P : X → Type 0) (xs ys : List X) → All P (xs ++ 
 back_of_all P [] ys all = all
 back_of_all P (x ∷ xs) ys all = back_of_all P xs ys (All-tail P x (xs ++ ys) all)
 
--- the constraints of all requirements hold where each requirement is met, and the other way round
-pub met_from_constraints : (s : ℕ → ℤ) (rs : List Requirement) → IsSolution (all_constraints rs) s → All (λ r. IsMet r s) rs
-met_from_constraints s [] met = All-nil (λ r. IsMet r s)
-met_from_constraints s (r ∷ rs) met =
-    let both : All (Holds s) (constraints_of r ++ all_constraints rs) = subst (All (Holds s)) (flat_map-cons constraints_of r rs) met in
-    let own = front_of_all (Holds s) (constraints_of r) (all_constraints rs) both in
-    All-cons (λ r. IsMet r s) r rs
-    (record {
-      lower = lower_met r s r.lower.bound (front_of_all (Holds s) (lower_constraint r r.lower.bound) (upper_constraint r r.upper.bound) own);
-      upper = upper_met r s r.upper.bound (back_of_all (Holds s) (lower_constraint r r.lower.bound) (upper_constraint r r.upper.bound) own);
-    })
-    (met_from_constraints s rs (back_of_all (Holds s) (constraints_of r) (all_constraints rs) both))
+-- a requirement is met where it is active
+abbrev pub IsMetIn : List Pick → (ℕ → ℤ) → Requirement → Type 0
+IsMetIn picks s r = IsTrue (holds r.guard picks) → IsMet r s
 
-pub constraints_from_met : (s : ℕ → ℤ) (rs : List Requirement) → All (λ r. IsMet r s) rs → IsSolution (all_constraints rs) s
-constraints_from_met s [] met = All-nil (Holds s)
-constraints_from_met s (r ∷ rs) met =
-    let own = All-head (λ r. IsMet r s) r rs met in
-    subst (All (Holds s)) (sym (flat_map-cons constraints_of r rs))
-    (All-append (Holds s) (constraints_of r) (all_constraints rs)
-    (All-append (Holds s) (lower_constraint r r.lower.bound) (upper_constraint r r.upper.bound)
-    (lower_holds r s r.lower.bound own.lower) (upper_holds r s r.upper.bound own.upper))
-    (constraints_from_met s rs (All-tail (λ r. IsMet r s) r rs met)))
+met_of : (s : ℕ → ℤ) (r : Requirement) → All (Holds s) (constraints_of r) → IsMet r s
+met_of s r own = record {
+  lower = lower_met r s r.lower.bound (front_of_all (Holds s) (lower_constraint r r.lower.bound) (upper_constraint r r.upper.bound) own);
+  upper = upper_met r s r.upper.bound (back_of_all (Holds s) (lower_constraint r r.lower.bound) (upper_constraint r r.upper.bound) own);
+}
+
+hold_of : (s : ℕ → ℤ) (r : Requirement) → IsMet r s → All (Holds s) (constraints_of r)
+hold_of s r met = All-append (Holds s) (lower_constraint r r.lower.bound) (upper_constraint r r.upper.bound)
+    (lower_holds r s r.lower.bound met.lower) (upper_holds r s r.upper.bound met.upper)
+
+-- the constraints of all requirements hold where each that is active is met, and the other way round
+pub met_from_constraints : (s : ℕ → ℤ) (picks : List Pick) (rs : List Requirement) → IsSolution (branch_constraints rs picks) s → All (IsMetIn picks s) rs
+met_from_constraints s picks [] met = All-nil (IsMetIn picks s)
+met_from_constraints s picks (r ∷ rs) met =
+    let both : All (Holds s) (active_constraints picks r ++ branch_constraints rs picks) = subst (All (Holds s)) (flat_map-cons (active_constraints picks) r rs) met in
+    let own = front_of_all (Holds s) (active_constraints picks r) (branch_constraints rs picks) both in
+    All-cons (IsMetIn picks s) r rs
+    (λ active. met_of s r (subst (All (Holds s)) (cond-true (holds r.guard picks) (constraints_of r) [] active) own))
+    (met_from_constraints s picks rs (back_of_all (Holds s) (active_constraints picks r) (branch_constraints rs picks) both))
+
+pub constraints_from_met : (s : ℕ → ℤ) (picks : List Pick) (rs : List Requirement) → All (IsMetIn picks s) rs → IsSolution (branch_constraints rs picks) s
+constraints_from_met s picks [] met = All-nil (Holds s)
+constraints_from_met s picks (r ∷ rs) met =
+    let own : All (Holds s) (active_constraints picks r) =
+    cond_both (holds r.guard picks) (constraints_of r) [] (All (Holds s))
+    (λ active. hold_of s r (All-head (IsMetIn picks s) r rs met active)) (λ inactive. All-nil (Holds s)) in
+    subst (All (Holds s)) (sym (flat_map-cons (active_constraints picks) r rs))
+    (All-append (Holds s) (active_constraints picks r) (branch_constraints rs picks) own
+    (constraints_from_met s picks rs (All-tail (IsMetIn picks s) r rs met)))
 
 -- the time of a controllable event doesn't depend on the durations
 own_time : (plan : Lists) (q : Proposal) (durations : ℕ → ℤ) (event : EventRef) → IsControllable plan event →
@@ -92,15 +105,17 @@ upper_within : (a b : ℤ) (bound : Option ℤ) → IfSome bound (λ most. (b +�
 upper_within a b None h = tt
 upper_within a b (Some most) h = rw (once most) (omega (arith, ints, h))
 
-lower_without : (a b : ℤ) (bound : Option ℤ) → IfSome bound (λ least. ((pos 1 *ℤ least) -ℤ pos 0) ≤ℤ (b -ℤ a)) →
-    IfSome bound (λ least. (a +ℤ least) ≤ℤ b)
-lower_without a b None h = tt
-lower_without a b (Some least) h = let k = rw (once least) at h in omega (arith, ints, k)
+lower_without : (k : ℕ) (a b : ℤ) (bound : Option ℤ) → 1 ≤ k → IfSome bound (λ least. ((pos k *ℤ least) -ℤ pos 0) ≤ℤ (b -ℤ a)) →
+    IfSome bound (λ least. (whole_of k a +ℤ least) ≤ℤ whole_of k b)
+lower_without k a b None some h = tt
+lower_without k a b (Some least) some h = whole-after k a b least some (omega (arith, ints, h))
 
-upper_without : (a b : ℤ) (bound : Option ℤ) → IfSome bound (λ most. (b -ℤ a) ≤ℤ ((pos 1 *ℤ most) +ℤ pos 0)) →
-    IfSome bound (λ most. (b +ℤ neg_ℤ most) ≤ℤ a)
-upper_without a b None h = tt
-upper_without a b (Some most) h = let k = rw (once most) at h in omega (arith, ints, k)
+upper_without : (k : ℕ) (a b : ℤ) (bound : Option ℤ) → 1 ≤ k → IfSome bound (λ most. (b -ℤ a) ≤ℤ ((pos k *ℤ most) +ℤ pos 0)) →
+    IfSome bound (λ most. (whole_of k b +ℤ neg_ℤ most) ≤ℤ whole_of k a)
+upper_without k a b None some h = tt
+upper_without k a b (Some most) some h =
+    let within : whole_of k b ≤ℤ (whole_of k a +ℤ most) = whole-within k b a most some (omega (arith, ints, h)) in
+    omega (arith, ints, within)
 
 -- where nothing is loosened, a requirement is met exactly where its two times are within its bounds
 pub within_from_met : (plan : Lists) (q : Proposal) (durations : ℕ → ℤ) (r : Requirement) → IsPlainRequirement plan r →
@@ -113,13 +128,22 @@ within_from_met plan q durations r plain low high met =
       upper = rw high (upper_within (q.times (node_of r.from)) (q.times (node_of r.to)) r.upper.bound met.upper);
     })
 
-pub met_from_within : (plan : Lists) (q : Proposal) (durations : ℕ → ℤ) (r : Requirement) → IsPlainRequirement plan r →
+-- times in k-ths that lie within k times the bounds meet the requirement in whole units
+pub met_from_within : (plan : Lists) (k : ℕ) (q : Proposal) (durations : ℕ → ℤ) (r : Requirement) → IsPlainRequirement plan r → 1 ≤ k →
     loosened q Lower r ≡ 0 → loosened q Upper r ≡ 0 →
-    IsWithin 1 q r (time_of plan q durations r.to -ℤ time_of plan q durations r.from) → IsMet r q.times
-met_from_within plan q durations r plain low high within =
-    let own : IsWithin 1 q r (q.times (node_of r.to) -ℤ q.times (node_of r.from)) =
+    IsWithin k q r (time_of plan q durations r.to -ℤ time_of plan q durations r.from) → IsMet r (λ e. whole_of k (q.times e))
+met_from_within plan k q durations r plain some low high within =
+    let own : IsWithin k q r (q.times (node_of r.to) -ℤ q.times (node_of r.from)) =
     rw (own_time plan q durations r.to plain.to, own_time plan q durations r.from plain.from) at within in
     record {
-      lower = lower_without (q.times (node_of r.from)) (q.times (node_of r.to)) r.lower.bound (rw low at own.lower);
-      upper = upper_without (q.times (node_of r.from)) (q.times (node_of r.to)) r.upper.bound (rw high at own.upper);
+      lower = lower_without k (q.times (node_of r.from)) (q.times (node_of r.to)) r.lower.bound some (rw low at own.lower);
+      upper = upper_without k (q.times (node_of r.from)) (q.times (node_of r.to)) r.upper.bound some (rw high at own.upper);
     }
+
+-- in units these are the times themselves
+pub solution-once : (cs : List Constraint) (s : ℕ → ℤ) → IsSolution cs (λ e. whole_of 1 (s e)) → IsSolution cs s
+solution-once [] s meets = All-nil (Holds s)
+solution-once (c ∷ cs) s meets =
+    let first : Holds (λ e. whole_of 1 (s e)) c = All-head (Holds (λ e. whole_of 1 (s e))) c cs meets in
+    All-cons (Holds s) c cs (omega (arith, ints, first, whole-once (s c.from), whole-once (s c.to)))
+    (solution-once cs s (All-tail (Holds (λ e. whole_of 1 (s e))) c cs meets))

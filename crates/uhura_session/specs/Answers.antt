@@ -1,83 +1,114 @@
 -- What is answered to a line, and the state after it.
-use Rattle.std.specs.Prelude.{◌≡◌, ℕ, ◌⊎◌, ℤ, Bool, true, false, List, [], ◌∷◌, None, Some, Option, codes}
-use Rattle.uhura_plan.specs.Lists.{empty}
-use Rattle.uhura_plan.specs.Edits.{event_refusal, with_event, requirement_refusal, AddsRequirement}
-use Rattle.uhura_plan.specs.declared.requirement.Bounded.{Bounded}
-use Rattle.uhura_plan.specs.declared.refusal.EditRefusal.{EditRefusal}
-use Rattle.uhura_plan.specs.declared.refusal.EditRefusal.TheVariants.{Memory}
+use Rattle.std.specs.Prelude.{◌≡◌, ℕ, ◌⊎◌, ◌&&◌, Bool, true, false, List, [], ◌∷◌, ◌++◌, length, nat_eq, None, Some, Option, is_none, Result, Ok, Err, codes}
+use Rattle.std.specs.List.{list_all}
+use Rattle.uhura_plan.specs.Lists.{Lists}
+use Rattle.uhura_plan.specs.declared.requirement.Requirement.{Requirement}
 use Rattle.uhura_veto.specs.State.{State}
 use Rattle.uhura_worst.specs.Proposal.{Proposal}
 use Rattle.uhura_worst.specs.Best.{IsBest, AllowsNothing}
-use Rattle.uhura_session.specs.declared.reading.Request.{Request}
-use Rattle.uhura_session.specs.declared.reading.Request.TheVariants.{AddEvent, AddRequirement, Propose}
-use Rattle.uhura_session.specs.declared.reading.Reading.{Reading}
-use Rattle.uhura_session.specs.declared.reading.Reading.TheVariants.{Quiet, Asks, NotUnderstood}
-use Rattle.uhura_session.specs.Reading.{reading}
-use Rattle.uhura_session.specs.ProposalText.{line_of, proposal_text}
-
--- the state before the first line: nothing is planned and nothing is vetoed
-abbrev pub empty_state : State
-empty_state = record { plan = empty; vetoes = [] }
+use Rattle.uhura_command.specs.declared.command.Command.{Command}
+use Rattle.uhura_command.specs.declared.command.Command.TheVariants as command
+use Rattle.uhura_command.specs.declared.refusal.LineRefusal.{LineRefusal}
+use Rattle.uhura_command.specs.declared.refusal.LineRefusal.TheVariants as line
+use Rattle.uhura_command.specs.declared.state.refusal.StateRefusal.{StateRefusal}
+use Rattle.uhura_command.specs.declared.state.refusal.StateRefusal.TheVariants as state
+use Rattle.uhura_command.specs.Parses.{Parses}
+use Rattle.uhura_command.specs.Apply.{refusal_of, Applies}
+use Rattle.uhura_command.specs.Script.{script}
+use Rattle.uhura_command.specs.Written.{line_of}
+use Rattle.uhura_session.specs.ProposalText.{proposal_text}
 
 -- an accepted edit is answered `ok`
 abbrev pub accepted_text : List ℕ
 accepted_text = line_of (codes "ok" ∷ [])
 
--- a line that isn't understood yet, and an edit that is refused, is answered by this text
-abbrev pub unbuilt_text : List ℕ
-unbuilt_text = line_of (codes "error" ∷ codes "14" ∷ codes "Unbuilt" ∷ [])
-
 -- what is answered where nothing is allowed
 abbrev pub nothing_text : List ℕ
 nothing_text = line_of (codes "none" ∷ [])
 
--- a bound without a price
-abbrev pub unpriced : Option ℤ → Bounded
-unpriced bound = record { bound = bound; price = None }
+-- a refused line is answered by the code and the name of its cause
+abbrev pub error_text : List ℕ → List ℕ → List ℕ
+error_text code name = line_of (codes "error" ∷ code ∷ name ∷ [])
 
--- an edit is refused for good, and not for want of memory
-abbrev pub IsForGood : EditRefusal → Type 0
-IsForGood (Memory error) = ⊥
-IsForGood refusal = Unit {0}
+-- the answer to a command whose part isn't built yet
+abbrev pub unbuilt_text : List ℕ
+unbuilt_text = error_text (codes "14") (codes "Unbuilt")
 
--- a line is refused: the state stays
-pub record Refuses (state : State) (text : List ℕ) (refused : Bool) (next : State) : Type 0 where
-  pub refusal : text ≡ unbuilt_text
+-- the text says why a line is no command. Want of memory is no answer
+abbrev pub IsLineError : LineRefusal → List ℕ → Type 0
+IsLineError line.Long text = text ≡ error_text (codes "1") (codes "Long")
+IsLineError (line.Byte at) text = text ≡ error_text (codes "2") (codes "Byte")
+IsLineError line.Verb text = text ≡ error_text (codes "3") (codes "Verb")
+IsLineError line.Form text = text ≡ error_text (codes "4") (codes "Form")
+IsLineError line.Number text = text ≡ error_text (codes "5") (codes "Number")
+IsLineError line.Name text = text ≡ error_text (codes "6") (codes "Name")
+IsLineError (line.Memory error) text = ⊥
+
+-- the text says why a command is refused in a state. Want of memory is no answer
+abbrev pub IsStateError : StateRefusal → List ℕ → Type 0
+IsStateError state.Taken text = text ≡ error_text (codes "7") (codes "Taken")
+IsStateError state.Unknown text = text ≡ error_text (codes "8") (codes "Unknown")
+IsStateError state.Kind text = text ≡ error_text (codes "9") (codes "Kind")
+IsStateError (state.Empty lower upper) text = text ≡ error_text (codes "10") (codes "Empty")
+IsStateError (state.Guard at) text = text ≡ error_text (codes "11") (codes "Guard")
+IsStateError (state.Full limit has) text = text ≡ error_text (codes "12") (codes "Full")
+IsStateError state.Unbuilt text = text ≡ unbuilt_text
+IsStateError (state.Memory error) text = ⊥
+
+-- a line is refused: its text says why, and the state stays
+pub record Refuses (Why : Type 0) (state : State) (refused : Bool) (next : State) : Type 0 where
+  pub why : Why
   pub refuses : refused ≡ true
   pub kept : next ≡ state
 
--- a line that isn't refused, with its text and what holds of the next state
-pub record Grants (says : List ℕ) (Next : Type 0) (text : List ℕ) (refused : Bool) : Type 0 where
-  pub said : text ≡ says
+-- a line that isn't refused, with what holds of its text and what holds of the next state
+pub record Grants (Says Next : Type 0) (refused : Bool) : Type 0 where
+  pub says : Says
   pub granted : refused ≡ false
   pub next : Next
+
+-- a requirement without a price
+abbrev pub is_unpriced : Requirement → Bool
+is_unpriced r = is_none r.lower.price && is_none r.upper.price
+
+-- a plan that can be asked so far: it has no duration, and no requirement with a price. Choices and guards count
+abbrev pub is_plain : Lists → Bool
+is_plain plan = nat_eq (length plan.uncertains) 0 && list_all is_unpriced plan.requirements
 
 -- the answer to a question: a best proposal, or `none` exactly where nothing is allowed
 abbrev pub IsProposed : State → List ℕ → Type 0
 IsProposed state text =
     ((p : Proposal) × IsBest state p × (text ≡ proposal_text state.plan p)) ⊎ (AllowsNothing state × (text ≡ nothing_text))
 
--- an edit is accepted where it has no refusal
-abbrev pub AnswersEdit : Option EditRefusal → Type 0 → State → List ℕ → Bool → State → Type 0
-AnswersEdit None Edited state text refused next = Grants accepted_text Edited text refused
-AnswersEdit (Some refusal) Edited state text refused next = Refuses state text refused next
+-- what is answered to a question, by whether the plan can be asked
+abbrev pub AnswersQuestion : Bool → State → List ℕ → Bool → State → Type 0
+AnswersQuestion true state text refused next = Grants (IsProposed state text) (next ≡ state) refused
+AnswersQuestion false state text refused next = Refuses (text ≡ unbuilt_text) state refused next
 
--- what is answered to a request
-unfoldable pub AnswersRequest : Request → State → List ℕ → Bool → State → Type 0
-AnswersRequest (AddEvent name) state text refused next =
-    AnswersEdit (event_refusal state.plan name) (next ≡ record state { plan = with_event state.plan name }) state text refused next
-AnswersRequest (AddRequirement name from to lower upper) state text refused next =
-    AnswersEdit (requirement_refusal state.plan name from to (unpriced lower) (unpriced upper) [])
-    (AddsRequirement state.plan next.plan name from to (unpriced lower) (unpriced upper) [] × (next.vetoes ≡ state.vetoes))
-    state text refused next
-AnswersRequest Propose state text refused next = IsProposed state text × (refused ≡ false) × (next ≡ state)
+-- what is answered to an edit, by its first refusal: it is accepted where it has none
+abbrev pub AnswersEdit : Option StateRefusal → Type 0 → State → List ℕ → Bool → State → Type 0
+AnswersEdit None Edited state text refused next = Grants (text ≡ accepted_text) Edited refused
+AnswersEdit (Some refusal) Edited state text refused next = Refuses (IsStateError refusal text) state refused next
 
--- what is answered to a line, by what it asks for
-abbrev pub AnswersReading : Reading → State → List ℕ → Bool → State → Type 0
-AnswersReading Quiet state text refused next = Grants [] (next ≡ state) text refused
-AnswersReading NotUnderstood state text refused next = Refuses state text refused next
-AnswersReading (Asks request) state text refused next = AnswersRequest request state text refused next
+-- the answer to `show`: the canonical script, and a comment behind it
+abbrev pub shown_text : Lists → List ℕ
+shown_text plan = script plan ++ codes "# end\n"
+
+-- what is answered to a command
+unfoldable pub AnswersCommand : Command → State → List ℕ → Bool → State → Type 0
+AnswersCommand command.Show state text refused next = Grants (text ≡ shown_text state.plan) (next ≡ state) refused
+AnswersCommand command.Propose state text refused next = AnswersQuestion (is_plain state.plan) state text refused next
+AnswersCommand command.Prove state text refused next = Refuses (text ≡ unbuilt_text) state refused next
+AnswersCommand c state text refused next = AnswersEdit (refusal_of state c) (Applies state c next) state text refused next
+
+-- what is answered to a line, by what it is parsed to
+abbrev pub AnswersParsed : Result (Option Command) LineRefusal → State → List ℕ → Bool → State → Type 0
+AnswersParsed (Ok None) state text refused next = Grants (text ≡ []) (next ≡ state) refused
+AnswersParsed (Ok (Some c)) state text refused next = AnswersCommand c state text refused next
+AnswersParsed (Err refusal) state text refused next = Refuses (IsLineError refusal text) state refused next
 
 -- in a state a line is answered by this text, refused or not, and leaves the next state
-unfoldable pub Answers : State → List ℕ → List ℕ → Bool → State → Type 0
-Answers state line text refused next = AnswersReading (reading line) state text refused next
+pub record Answers (state : State) (line text : List ℕ) (refused : Bool) (next : State) : Type 0 where
+  pub parsed : Result (Option Command) LineRefusal
+  pub parses : Parses line parsed
+  pub answers : AnswersParsed parsed state text refused next

@@ -1,10 +1,12 @@
--- The plans that the lines so far make, and what their requirements say of the times of their events.
-use Rattle.std.specs.Prelude.{◌≡◌, ℕ, ◌<◌, ℤ, neg_ℤ, List, [], ◌∷◌, ◌++◌, length, flat_map, None, Some, Option}
+-- Plans without durations and without prices, and what their requirements say of the times of their events in a branch.
+use Rattle.std.specs.Prelude.{◌≡◌, ℕ, ◌<◌, ℤ, neg_ℤ, List, [], ◌∷◌, ◌++◌, length, flat_map, if◌then◌else◌, None, Some, Option}
 use Rattle.std.specs.List.{All}
 use Rattle.uhura_plan.specs.Lists.{Lists}
 use Rattle.uhura_plan.specs.declared.key.EventRef.{EventRef}
 use Rattle.uhura_plan.specs.declared.key.EventRef.TheVariants.{Controllable, End}
 use Rattle.uhura_plan.specs.declared.requirement.Requirement.{Requirement}
+use Rattle.uhura_choice.specs.declared.prefix.Pick.{Pick}
+use Rattle.uhura_choice.specs.Branch.{holds}
 use Rattle.uhura_veto.specs.State.{State}
 use Rattle.uhura_worst.specs.Proposal.{Proposal}
 use Rattle.uhura_session.specs.declared.schedule.Constraint.{Constraint}
@@ -14,18 +16,16 @@ abbrev pub IsControllable : Lists → EventRef → Type 0
 IsControllable plan (Controllable e) = e < length plan.events
 IsControllable plan (End d) = ⊥
 
--- a requirement between controllable events, without prices and without a guard
+-- a requirement between controllable events, without prices
 pub record IsPlainRequirement (plan : Lists) (r : Requirement) : Type 0 where
   pub from : IsControllable plan r.from
   pub to : IsControllable plan r.to
   pub lower : r.lower.price ≡ None
   pub upper : r.upper.price ≡ None
-  pub guard : r.guard ≡ []
 
 -- a plan of controllable events and plain requirements
 pub record IsPlain (plan : Lists) : Type 0 where
   pub uncertains : plan.uncertains ≡ []
-  pub choices : plan.choices ≡ []
   pub requirements : All (IsPlainRequirement plan) plan.requirements
 
 -- the place of a controllable event
@@ -47,14 +47,18 @@ upper_constraint r (Some most) = record { from = node_of r.to; to = node_of r.fr
 abbrev pub constraints_of : Requirement → List Constraint
 constraints_of r = lower_constraint r r.lower.bound ++ upper_constraint r r.upper.bound
 
--- the constraints of all requirements, in their order
-abbrev pub all_constraints : List Requirement → List Constraint
-all_constraints rs = flat_map constraints_of rs
+-- the constraints of a requirement in a branch: none where it isn't active there
+abbrev pub active_constraints : List Pick → Requirement → List Constraint
+active_constraints picks r = if holds r.guard picks then constraints_of r else []
+
+-- the constraints of all requirements in a branch, in their order
+abbrev pub branch_constraints : List Requirement → List Pick → List Constraint
+branch_constraints rs picks = flat_map (active_constraints picks) rs
 
 -- a plan without vetoes
 abbrev pub free : Lists → State
 free plan = record { plan = plan; vetoes = [] }
 
--- the proposal that loosens nothing and has these times
-abbrev pub unloosened : (ℕ → ℤ) → Proposal
-unloosened s = record { branch = []; units = λ key. 0; times = s }
+-- the proposal with this branch and these times that loosens nothing
+abbrev pub unloosened : List Pick → (ℕ → ℤ) → Proposal
+unloosened branch s = record { branch = branch; units = λ key. 0; times = s }

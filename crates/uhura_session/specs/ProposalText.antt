@@ -12,12 +12,8 @@ use Rattle.uhura_choice.specs.declared.prefix.Pick.{Pick}
 use Rattle.uhura_choice.specs.declared.prefix.Pick.TheVariants.{Alternative, Inactive}
 use Rattle.uhura_worst.specs.Proposal.{Proposal, loosened, narrowed}
 use Rattle.uhura_worst.specs.Cost.{cost}
-
--- a line of words, separated by one space, with its newline
-abbrev pub line_of : List (List ℕ) → List ℕ
-line_of [] = codes "\n"
-line_of (word ∷ []) = word ++ codes "\n"
-line_of (word ∷ next ∷ more) = word ++ codes " " ++ line_of (next ∷ more)
+use Rattle.uhura_command.specs.Form.{side_word}
+use Rattle.uhura_command.specs.Written.{line_of}
 
 -- the name of an alternative
 abbrev pub alternative_name : Choice → ℕ → List ℕ
@@ -29,11 +25,6 @@ pick_lines [] picks = []
 pick_lines (c ∷ cs) [] = []
 pick_lines (c ∷ cs) (Alternative a ∷ picks) = line_of (codes "pick" ∷ c.name ∷ alternative_name c a ∷ []) ++ pick_lines cs picks
 pick_lines (c ∷ cs) (Inactive ∷ picks) = pick_lines cs picks
-
--- a side as it is written
-abbrev pub side_word : Side → List ℕ
-side_word Lower = codes "lower"
-side_word Upper = codes "upper"
 
 -- a line for a side that has units, and nothing for one that has none
 abbrev pub side_line : List ℕ → List ℕ → Side → ℕ → List ℕ

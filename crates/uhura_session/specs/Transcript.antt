@@ -2,7 +2,8 @@
 use Rattle.std.specs.Prelude.{◌≡◌, ℕ, Bool, false, ◌||◌, List, [], ◌∷◌, ◌++◌}
 use Rattle.uhura_text.specs.Lines.{lines}
 use Rattle.uhura_veto.specs.State.{State}
-use Rattle.uhura_session.specs.Answers.{Answers, empty_state}
+use Rattle.uhura_command.specs.State.{empty_state}
+use Rattle.uhura_session.specs.Answers.{Answers}
 
 -- the text is a line's answer and then the rest's, which begins in the state that the line left; `refused` tells whether
 -- some line was refused

@@ -1,10 +1,12 @@
-//! The requirements of a plain plan as difference constraints on the times of its events.
+//! The requirements of a plan that are active in a branch, as difference constraints on the times of its events.
 ghost use Rattle.std.specs.Prelude.{◌≡◌, ℕ, ◌+◌, ◌*◌, ◌<◌, ◌≤◌, ◌++◌, length, IfOk};
 ghost use Rattle.uhura_plan.specs.Limits.{AreWithinLimits};
-ghost use Rattle.uhura_session.specs.Plain.{IsPlain, node_of, lower_constraint, upper_constraint, constraints_of, all_constraints};
+ghost use Rattle.uhura_plan.specs.Sound.{IsSound};
+ghost use Rattle.uhura_session.specs.Plain.{node_of, constraints_of, active_constraints, branch_constraints};
 
 use crate::schedule::Constraint;
 use std::alloc::AllocError;
+use uhura_choice::{Branch, holds};
 use uhura_plan::{EventRef, Plan, Requirement};
 
 /// The place of a controllable event.
@@ -40,14 +42,34 @@ fn push_bounds(
     Ok(())
 }
 
-/// Makes the list that of all requirements of the plan, in their order.
-pub fn collect(constraints: &mut Vec<Constraint>, plan: &Plan) -> Result<(), AllocError>
-    ensures { IfOk result (λ _. constraints.new.items ≡ all_constraints plan.now.requirements) }
+/// Appends what the bounds of a requirement say where it is active in the branch, and nothing where it isn't.
+fn push_active(
+    constraints: &mut Vec<Constraint>,
+    requirement: &Requirement,
+    branch: &Branch,
+) -> Result<(), AllocError>
+    requires { AreWithinLimits requirement.now.upper }
+    ensures { IfOk result (λ _. constraints.new.items ≡ constraints.old.items ++ active_constraints branch.now requirement.now) }
+{
+    if holds(&requirement.guard, branch) {
+        push_bounds(constraints, requirement)?;
+    }
+    Ok(())
+}
+
+/// Makes the list that of all requirements of the plan that are active in the branch, in their order.
+pub fn collect(
+    constraints: &mut Vec<Constraint>,
+    plan: &Plan,
+    branch: &Branch,
+) -> Result<(), AllocError>
+    ensures constraints { IfOk result (λ _. constraints.new.items ≡ branch_constraints plan.now.requirements branch.now) }
+    ensures sound { IsSound plan.now }
 {
     constraints.clear();
     for position in 0..plan.requirements() {
         if let Some(requirement) = plan.requirement(position) {
-            push_bounds(constraints, requirement)?;
+            push_active(constraints, requirement, branch)?;
         }
     }
     Ok(())

@@ -1,11 +1,16 @@
 //! One dialogue: what is answered to a line, and the state after it.
 #![tactic(auto)]
 
+mod answer;
+mod branches;
 mod constraints;
 mod edit;
+mod error;
+pub mod law;
+mod proposal;
 mod propose;
-mod reading;
 mod schedule;
 mod session;
 
+pub use answer::Answer;
 pub use session::Session;

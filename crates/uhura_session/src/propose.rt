@@ -1,56 +1,15 @@
-//! The answer to `propose`: the earliest schedule, or `none`.
-ghost use Rattle.std.specs.Prelude.{◌≡◌, ℕ, ◌+◌, ◌≤◌, ◌++◌, [], ◌∷◌, false, length, replicate, drop, pos, IfOk, codes};
-ghost use Rattle.uhura_text.specs.Number.{spelling};
-ghost use Rattle.uhura_plan.specs.Sound.{IsSound};
-ghost use Rattle.uhura_session.specs.ProposalText.{line_of, time_lines, proposal_text};
-ghost use Rattle.uhura_session.specs.declared.reading.Request.TheVariants as asks;
-ghost use Rattle.uhura_session.specs.Answers.{AnswersRequest, IsProposed};
-ghost use Rattle.uhura_session.specs.Schedule.{time_at};
-ghost use Rattle.uhura_session.specs.Plain.{IsPlain, all_constraints, free, unloosened};
+//! The answer to `propose`: the first cheapest branch that has a schedule, with its earliest one, or `none`.
+ghost use Rattle.std.specs.Prelude.{◌≡◌, [], true, length, IfOk};
+ghost use Rattle.std.specs.List.{list_all};
+ghost use Rattle.uhura_session.specs.Answers.{AnswersQuestion, IsProposed, is_plain, is_unpriced};
+ghost use Rattle.uhura_session.specs.Plain.{IsPlain, free};
 
-use crate::constraints::collect;
-use crate::schedule::{Constraint, earliest};
+use crate::branches::{best_branch, schedule_branch};
+use crate::error::put_unbuilt;
+use crate::proposal::put_proposal;
+use crate::schedule::Constraint;
 use std::alloc::AllocError;
-use uhura_plan::{Name, Plan};
-use uhura_text::put_number;
-
-/// Appends the line of an event's time.
-fn put_time(text: &mut Vec<u8>, name: Name, time: i64) -> Result<(), AllocError>
-    ensures { IfOk result (λ _. text.new.items ≡ text.old.items ++ line_of (codes "at" ∷ name ∷ spelling time ∷ [])) }
-{
-    text.extend_from_slice(b"at ")?;
-    text.extend_from_slice(name.bytes())?;
-    text.extend_from_slice(b" ")?;
-    put_number(text, i128::from(time))?;
-    text.extend_from_slice(b"\n")?;
-    Ok(())
-}
-
-/// Appends the lines of the times of all events.
-fn put_times(text: &mut Vec<u8>, plan: &Plan, times: &[i64]) -> Result<(), AllocError>
-    requires { length times.now ≡ length plan.now.events }
-    ensures { IfOk result (λ _. text.new.items ≡ text.old.items ++ time_lines (time_at times.now) 0 plan.now.events) }
-{
-    for event in 0..plan.events() {
-        if let Some(name) = plan.event(event) {
-            put_time(text, name, times[event as usize])?;
-        }
-    }
-    Ok(())
-}
-
-/// Writes the proposal that loosens nothing and has these times.
-fn put_proposal(text: &mut Vec<u8>, plan: &Plan, times: &[i64]) -> Result<(), AllocError>
-    requires plain { IsPlain plan.now }
-    requires count { length times.now ≡ length plan.now.events }
-    requires empty { text.old.items ≡ [] }
-    ensures { IfOk result (λ _. text.new.items ≡ proposal_text plan.now (unloosened (time_at times.now))) }
-{
-    text.extend_from_slice(b"proposal 0\n")?;
-    put_times(text, plan, times)?;
-    text.extend_from_slice(b"end\n")?;
-    Ok(())
-}
+use uhura_plan::{Plan, Requirement};
 
 /// Makes the list one zero for each event.
 fn clear_times(times: &mut Vec<i64>, events: usize) -> Result<(), AllocError>
@@ -60,43 +19,91 @@ fn clear_times(times: &mut Vec<i64>, events: usize) -> Result<(), AllocError>
     times.resize(events, 0)
 }
 
-/// Writes the best proposal into the text, or `none`, with the constraints of all requirements at hand.
+/// Writes the best proposal into the text, or `none`.
 fn put_answer(
     text: &mut Vec<u8>,
     plan: &Plan,
-    constraints: &[Constraint],
+    constraints: &mut Vec<Constraint>,
     times: &mut [i64],
 ) -> Result<(), AllocError>
     requires plain { IsPlain plan.now }
-    requires sound { IsSound plan.now }
-    requires constraints { constraints.now ≡ all_constraints plan.now.requirements }
     requires count { length times.old ≡ length plan.now.events }
     requires empty { text.old.items ≡ [] }
     ensures { IfOk result (λ _. IsProposed (free plan.now) text.new.items) }
 {
-    if earliest(constraints, times) {
-        put_proposal(text, plan, times)?;
-    } else {
-        text.extend_from_slice(b"none\n")?;
+    match best_branch(plan, constraints, times)? {
+        Some(branch) => {
+            schedule_branch(plan, &branch, constraints, times)?;
+            put_proposal(text, plan, &branch, times)?;
+            Ok(())
+        }
+        None => {
+            text.extend_from_slice(b"none\n")?;
+            Ok(())
+        }
     }
-    Ok(())
 }
 
-/// Answers the question: writes the best proposal into the text, or `none`. The two lists are room to
-/// work in, kept from one question to the next.
-#[tactic(auto, unfolding(crate::specs::Answers::AnswersRequest))]
+/// Writes the best proposal into the text, or `none`. The two lists are room to work in, kept from one question to the
+/// next.
+fn solve(
+    plan: &Plan,
+    constraints: &mut Vec<Constraint>,
+    times: &mut Vec<i64>,
+    text: &mut Vec<u8>,
+) -> Result<(), AllocError>
+    requires plain { IsPlain plan.now }
+    requires empty { text.old.items ≡ [] }
+    ensures { IfOk result (λ _. IsProposed (free plan.now) text.new.items) }
+{
+    clear_times(times, plan.events() as usize)?;
+    put_answer(text, plan, constraints, times)
+}
+
+/// Whether the plan can be asked so far.
+#[tactic(auto, using(crate::proofs::PlainTest::plain_from_test))]
+fn is_plain(plan: &Plan) -> bool
+    ensures plain { result ≡ is_plain plan.now }
+    ensures meets { result ≡ true → IsPlain plan.now }
+{
+    plan.uncertains() == 0 && has_no_price(plan)
+}
+
+/// Whether no requirement has a price.
+fn has_no_price(plan: &Plan) -> bool
+    ensures { result ≡ list_all is_unpriced plan.now.requirements }
+{
+    for position in 0..plan.requirements() {
+        let requirement = plan.requirement(position).unwrap();
+        if !is_unpriced(requirement) {
+            return false;
+        }
+    }
+    true
+}
+
+/// Whether neither side of the requirement has a price.
+fn is_unpriced(requirement: &Requirement) -> bool
+    ensures { result ≡ is_unpriced requirement.now }
+{
+    requirement.lower.price.is_none() && requirement.upper.price.is_none()
+}
+
+/// Answers the question, where the plan can be asked so far.
 pub fn propose(
     plan: &Plan,
     constraints: &mut Vec<Constraint>,
     times: &mut Vec<i64>,
     text: &mut Vec<u8>,
 ) -> Result<bool, AllocError>
-    requires plain { IsPlain plan.now }
     requires empty { text.old.items ≡ [] }
-    ensures { IfOk result (λ refused. AnswersRequest asks.Propose (free plan.now) text.new.items refused (free plan.now)) }
+    ensures { IfOk result (λ refused. AnswersQuestion (is_plain plan.now) (free plan.now) text.new.items refused (free plan.now)) }
 {
-    collect(constraints, plan)?;
-    clear_times(times, plan.events() as usize)?;
-    put_answer(text, plan, constraints, times)?;
-    Ok(false)
+    if is_plain(plan) {
+        solve(plan, constraints, times, text)?;
+        Ok(false)
+    } else {
+        put_unbuilt(text)?;
+        Ok(true)
+    }
 }

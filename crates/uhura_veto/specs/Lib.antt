@@ -1,3 +1,4 @@
 pub mod State
+pub mod Vetoes
 pub mod Denial
 pub mod Room

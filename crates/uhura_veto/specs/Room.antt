@@ -1,5 +1,9 @@
 -- How far a side may be loosened or narrowed: by its own limit and by the caps on it.
-use Rattle.std.specs.Prelude.{ℕ, ◌-ℤ◌, ◌*◌, ◌≤◌, ◌&&◌, min, nat_abs, nat_eq, Bool, true, false, if◌then◌else◌, ℤ, List, [], ◌∷◌, ◌++◌, fold, None, Some, Option, option_to_list}
+use Rattle.std.specs.Prelude.{ℕ, ◌-ℤ◌, ◌*◌, ◌≤◌, ◌&&◌, min, nat_abs, nat_eq, Bool, true, false, if◌then◌else◌, ℤ, List, [], ◌∷◌, ◌++◌, fold, None, Some, Option, option_to_list, option_map, slice_get}
+use Rattle.std.specs.Option.{option_map_or}
+use Rattle.uhura_plan.specs.Limits.{IsAmount}
+use Rattle.uhura_plan.specs.Lists.{Lists}
+use Rattle.uhura_plan.specs.Find.{requirement_in}
 use Rattle.uhura_plan.specs.declared.key.Side.{Side}
 use Rattle.uhura_plan.specs.declared.key.Side.TheVariants.{Lower, Upper}
 use Rattle.uhura_plan.specs.declared.key.Item.{Item}
@@ -60,6 +64,10 @@ abbrev pub bounded_of : Side → Requirement → Bounded
 bounded_of Lower r = r.lower
 bounded_of Upper r = r.upper
 
+-- the rate at which a requirement's side may be loosened
+abbrev pub loosening_rate : Side → Requirement → Option ℕ
+loosening_rate side r = option_map (λ price. price.rate) (bounded_of side r).price
+
 -- the rate at which a duration's side may be narrowed
 abbrev pub rate_of : Side → Uncertain → Option ℕ
 rate_of Lower u = u.lower_rate
@@ -78,6 +86,24 @@ requirement_room vetoes side r = let bounded = bounded_of side r in
 abbrev pub duration_room : List Veto → ℕ → Side → Uncertain → Room
 duration_room vetoes d side u =
     room_to_narrow (rate_of side u) (width_of u) (caps_on (record { item = item.Uncertain d; side = side }) vetoes)
+
+-- the room of a side of an item of the plan, none where there is no such item
+abbrev pub room_in : Lists → List Veto → Side → Item → Room
+room_in plan vetoes side (item.Requirement slot) = option_map_or (requirement_room vetoes side) (requirement_in plan slot) (Units 0)
+room_in plan vetoes side (item.Uncertain d) = option_map_or (duration_room vetoes d side) (slice_get plan.uncertains d) (Units 0)
+
+abbrev pub room_of : Lists → List Veto → SideKey → Room
+room_of plan vetoes key = room_in plan vetoes key.side key.item
+
+-- the least of a room and of the numbers
+abbrev pub least_with : Room → List ℕ → Room
+least_with Unlimited numbers = least_of numbers
+least_with (Units most) numbers = least_of (most ∷ numbers)
+
+-- a room that is a number is an amount
+abbrev pub IsSoundRoom : Room → Type 0
+IsSoundRoom (Units most) = IsAmount most
+IsSoundRoom Unlimited = Unit {0}
 
 -- the units lie within k times the room
 abbrev pub IsWithinRoom : ℕ → Room → ℕ → Type 0

@@ -2,8 +2,12 @@
 //! What they deny, and the room that they leave, stand in `specs/`.
 #![tactic(auto)]
 
+mod cap;
 mod room;
+pub mod rooms;
 mod veto;
+mod vetoes;
 
 pub use room::Room;
 pub use veto::Veto;
+pub use vetoes::Vetoes;

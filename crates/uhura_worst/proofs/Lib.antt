@@ -1,3 +1,9 @@
 mod Single
 mod CappedDrive
-mod Branches
+mod Puts
+mod FirstItems
+pub mod SoundItems
+mod WorstCase
+mod FirmEdges
+mod PassedUnits
+mod Pairs

@@ -1,12 +1,12 @@
 -- What a proposal costs.
-use Rattle.std.specs.Prelude.{ℕ, ◌+◌, ◌*◌, List, [], ◌∷◌, sum_by, None, Some, Option, option_map}
+use Rattle.std.specs.Prelude.{ℕ, ◌+◌, ◌*◌, List, [], ◌∷◌, sum_by, None, Some, Option}
 use Rattle.uhura_plan.specs.Lists.{Lists}
 use Rattle.uhura_plan.specs.declared.key.Side.{Side}
 use Rattle.uhura_plan.specs.declared.key.Side.TheVariants.{Lower, Upper}
 use Rattle.uhura_plan.specs.declared.requirement.Requirement.{Requirement}
 use Rattle.uhura_plan.specs.declared.uncertain.Uncertain.{Uncertain}
 use Rattle.uhura_choice.specs.Branch.{picked_cost}
-use Rattle.uhura_veto.specs.Room.{bounded_of, rate_of}
+use Rattle.uhura_veto.specs.Room.{loosening_rate, rate_of}
 use Rattle.uhura_worst.specs.Proposal.{Proposal, loosened, narrowed}
 
 -- so many units at a price each: nothing where there is no price
@@ -16,7 +16,7 @@ price_of (Some rate) units = rate * units
 
 -- what the units of a side cost
 abbrev pub loosening_cost : Proposal → Side → Requirement → ℕ
-loosening_cost q side r = price_of (option_map (λ price. price.rate) (bounded_of side r).price) (loosened q side r)
+loosening_cost q side r = price_of (loosening_rate side r) (loosened q side r)
 
 -- and those of a side of the duration in place d
 abbrev pub narrowing_cost : Proposal → ℕ → Side → Uncertain → ℕ

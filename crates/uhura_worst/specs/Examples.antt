@@ -125,6 +125,16 @@ two_drives = record {
 abbrev pub gap_by : ℕ → ℕ → Proposal
 gap_by lower upper = at_zero [] ((requirement_side 0 Lower, lower) ∷ (requirement_side 0 Upper, upper) ∷ [])
 
+-- The same drives, with their ends at least 10 and at most so many apart.
+abbrev pub apart : ℕ → Requirement
+apart most = record { name = codes "gap"; slot = 0; from = End 0; to = End 1; lower = bounded (pos 10); upper = bounded (pos most); guard = [] }
+
+abbrev pub drives_apart : ℕ → State
+drives_apart most = record {
+  plan = record { events = codes "s" ∷ []; uncertains = short ∷ long ∷ []; choices = []; requirements = apart most ∷ [] };
+  vetoes = [];
+}
+
 -- A meal at home for 0 or out for 5. Out, it is at one of two places for 9 each, and the first of them is denied.
 abbrev pub meal : Choice
 meal = record { name = codes "meal"; alternatives = (codes "home", 0) ∷ (codes "out", 5) ∷ []; guard = [] }

@@ -2,5 +2,9 @@ pub mod Proposal
 pub mod Allowed
 pub mod Cost
 pub mod Best
+pub mod Nodes
+pub mod Edges
+pub mod Filled
+pub mod WorstCase
 pub mod Units
 pub mod Examples

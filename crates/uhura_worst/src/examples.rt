@@ -1,9 +1,10 @@
 //! The definitions tried on worked plans: each contract is a fact about one of the plans of
 //! `specs/Examples.antt`, and the bodies are empty.
-ghost use Rattle.std.specs.Prelude.{◌≡◌, ℕ, ◌<◌, length, Some, ◌∷◌, [], codes, pos};
+ghost use Rattle.std.specs.Prelude.{◌≡◌, ℕ, ◌<◌, length, None, Some, ◌∷◌, [], codes, pos, negsuc};
 ghost use Rattle.uhura_choice.specs.declared.prefix.Pick.TheVariants.{Alternative, Inactive};
 ghost use Rattle.uhura_choice.specs.Branch.{IsBranch};
-ghost use Rattle.uhura_plan.specs.declared.key.Side.TheVariants.{Upper};
+ghost use Rattle.uhura_plan.specs.declared.key.Side.TheVariants.{Lower, Upper};
+ghost use Rattle.uhura_plan.specs.declared.key.EdgeKey.TheVariants.{Loose, Firm, Order};
 ghost use Rattle.uhura_veto.specs.declared.veto.Veto.TheVariants.{Cap};
 ghost use Rattle.uhura_veto.specs.declared.room.Room.TheVariants.{Units};
 ghost use Rattle.uhura_veto.specs.State.{State};
@@ -11,8 +12,9 @@ ghost use Rattle.uhura_veto.specs.Room.{requirement_room, duration_room};
 ghost use Rattle.uhura_worst.specs.Proposal.{Proposal};
 ghost use Rattle.uhura_worst.specs.Allowed.{Allowed};
 ghost use Rattle.uhura_worst.specs.Cost.{cost};
-ghost use Rattle.uhura_worst.specs.Best.{IsFirst, IsBest};
-ghost use Rattle.uhura_worst.specs.Examples.{evening_drive, dinner_later, squeezed, narrowed_to_nothing, two_sides, by_left, by_right, capped_drive, later_and_cut, two_drives, gap_by, dining, dine, stretch, not_after, dinner_at_most, requirement_side, duration_side, pinned, pinned_by};
+ghost use Rattle.uhura_worst.specs.Best.{IsFirst, IsBest, AllowsNothing};
+ghost use Rattle.uhura_worst.specs.Edges.{edge_of};
+ghost use Rattle.uhura_worst.specs.Examples.{evening_drive, dinner_later, squeezed, narrowed_to_nothing, two_sides, by_left, by_right, capped_drive, later_and_cut, two_drives, gap_by, drives_apart, at_zero, dining, dine, stretch, not_after, dinner_at_most, requirement_side, duration_side, pinned, pinned_by};
 
 /// Dinner 10 minutes later is allowed and costs 20; 9 minutes aren't enough for the longest drive.
 pub fn longest_drive_counts()
@@ -56,6 +58,27 @@ pub fn drives_vary_apart()
     ensures cost { cost two_drives.plan 1 (gap_by 5 5) ≡ 10 }
     ensures in_halves { Allowed two_drives 2 (gap_by 10 10) }
     ensures too_little { Allowed two_drives 1 (gap_by 5 4) → ⊥ }
+{}
+
+/// The bounds have to hold the whole range of the difference of two uncertain ends: one unit less than that leaves
+/// nothing.
+pub fn whole_difference_counts()
+    ensures allowed { Allowed (drives_apart 40) 1 (at_zero [] []) }
+    ensures nothing { AllowsNothing (drives_apart 39) }
+{}
+
+/// The tables of a drive and of a dinner that may come later at a price without limit.
+pub fn tables_are_read()
+    ensures dinner_loose { edge_of evening_drive (Loose (requirement_side 0 Upper)) ≡ Some (record { from = 0; to = 513; bound = pos 40; capacity = 2 }) }
+    ensures dinner_firm { edge_of evening_drive (Firm (requirement_side 0 Upper)) ≡ None }
+    ensures no_bound { edge_of evening_drive (Firm (requirement_side 0 Lower)) ≡ None }
+    ensures no_price { edge_of evening_drive (Loose (duration_side 0 Lower)) ≡ None }
+    ensures shortest { edge_of evening_drive (Firm (duration_side 0 Lower)) ≡ Some (record { from = 0; to = 512; bound = pos 30; capacity = 10000000000 }) }
+    ensures longest { edge_of evening_drive (Loose (duration_side 0 Upper)) ≡ Some (record { from = 513; to = 0; bound = negsuc 49; capacity = 3 }) }
+    ensures narrowed { edge_of evening_drive (Firm (duration_side 0 Upper)) ≡ Some (record { from = 513; to = 0; bound = negsuc 29; capacity = 10000000000 }) }
+    ensures order { edge_of evening_drive (Order 0) ≡ Some (record { from = 513; to = 512; bound = pos 0; capacity = 10000000000 }) }
+    ensures early { edge_of (drives_apart 40) (Firm (requirement_side 0 Lower)) ≡ Some (record { from = 514; to = 513; bound = negsuc 9; capacity = 10000000000 }) }
+    ensures late { edge_of (drives_apart 40) (Firm (requirement_side 0 Upper)) ≡ Some (record { from = 512; to = 515; bound = pos 40; capacity = 10000000000 }) }
 {}
 
 /// A choice is inactive exactly where its guard isn't picked. It then costs nothing, none of its alternatives may be

@@ -1,5 +1,16 @@
 //! What a proposal is, when it is allowed, what it costs, and which one is best: `specs/Proposal.antt` to
-//! `specs/Best.antt`, tried on worked plans in `examples`.
+//! `specs/Best.antt`, tried on worked plans in `examples`. The edges of the worst case stand in `specs/Edges.antt`, and
+//! `worst_case` says what they have to do with proposals.
 #![tactic(auto)]
 
+mod constraint;
+mod edges;
 pub mod examples;
+mod filling;
+mod loosening;
+mod node;
+pub mod worst_case;
+
+pub use edges::edge;
+pub use filling::fill;
+pub use loosening::Loosening;

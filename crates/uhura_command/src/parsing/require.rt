@@ -1,19 +1,26 @@
 //! The verb `require`.
-ghost use Rattle.std.specs.Prelude.{◌≡◌, true, ℕ, List, option_map};
+ghost use Rattle.std.specs.Prelude.{◌≡◌, ◌∷◌, true, ℕ, List, option_map, codes};
 ghost use Rattle.uhura_command.specs.Form.{IsForm};
 ghost use Rattle.uhura_command.specs.Form as grammar;
 ghost use Rattle.uhura_command.specs.Reads.{bound_word, priced_of, has_numbers};
 ghost use Rattle.uhura_command.specs.Pairs.{HoldsPairs};
 ghost use Rattle.uhura_command.specs.Parses.{ParsesWords};
 
+use super::ahead::Ahead;
+use super::count::next_five;
+use super::guard::read_guard;
 use super::pairs::Pairs;
+use super::part::{lower_part, upper_part};
 use super::several::three_names;
+use super::sides::two_sides;
 use crate::{Command, LineRefusal, Literals};
+use std::alloc::Global;
 use uhura_plan::Bounded;
+use uhura_text::Words;
 
 /// The requirement of what was read, whose numbers are such, or why it is none.
 #[tactic(auto, using(crate::proofs::RequireLemmas::required))]
-pub(crate) fn made(
+fn made(
     name: &[u8],
     from: &[u8],
     to: &[u8],
@@ -37,5 +44,29 @@ pub(crate) fn made(
             }),
         },
         None => Err(LineRefusal::Name),
+    }
+}
+
+/// `require N FROM TO LO HI [lower PRICE [MAX]] [upper PRICE [MAX]] [when C A ..]`, from the words behind the verb.
+#[tactic(auto, using(crate::proofs::RequireLemmas::requirements))]
+pub(crate) fn require(alloc: Global, mut words: Words<'_>) -> Result<Command, LineRefusal>
+    ensures { ParsesWords (codes "require" ∷ words.entry) result }
+{
+    let Some((name, from, to, low, high)) = next_five(&mut words) else {
+        return Err(LineRefusal::Form);
+    };
+    let mut ahead = Ahead::new(words);
+    let Some(lower) = lower_part(&mut ahead) else {
+        return Err(LineRefusal::Form);
+    };
+    let Some(upper) = upper_part(&mut ahead) else {
+        return Err(LineRefusal::Form);
+    };
+    let Some(guard) = read_guard(alloc, ahead) else {
+        return Err(LineRefusal::Form);
+    };
+    match two_sides(low, high, &lower, &upper) {
+        Some((lower, upper)) => made(name, from, to, lower, upper, guard),
+        None => Err(LineRefusal::Number),
     }
 }

@@ -5,10 +5,10 @@ ghost use Rattle.uhura_command.specs.Reads.{is_bound, bound_word, is_priced, pri
 
 use super::places::bound;
 use super::priced::{PricedWords, price};
-use uhura_plan::Price;
+use uhura_plan::{Bounded, Price};
 
 /// The two bounds.
-pub(crate) fn two_bounds(low: &[u8], high: &[u8]) -> Option<(Option<i64>, Option<i64>)>
+fn two_bounds(low: &[u8], high: &[u8]) -> Option<(Option<i64>, Option<i64>)>
     ensures none { IfNone result ((is_bound low.now && is_bound high.now) ≡ false) }
     ensures low { IfSome result (λ b. low.now ≡ bound_word b.0) }
     ensures high { IfSome result (λ b. high.now ≡ bound_word b.1) }
@@ -24,7 +24,7 @@ pub(crate) fn two_bounds(low: &[u8], high: &[u8]) -> Option<(Option<i64>, Option
 }
 
 /// The price of a side, where its words are there.
-pub(crate) fn side_price(words: &Option<PricedWords<'_>>) -> Option<Option<Price>>
+fn side_price(words: &Option<PricedWords<'_>>) -> Option<Option<Price>>
     ensures none { IfNone result (option_map_or is_priced words.now true ≡ false) }
     ensures some { IfSome result (λ p. words.now ≡ option_map priced_of p) }
     ensures good { IfSome result (λ p. option_map_or is_priced (option_map priced_of p) true ≡ true) }
@@ -36,4 +36,39 @@ pub(crate) fn side_price(words: &Option<PricedWords<'_>>) -> Option<Option<Price
         },
         None => Some(None),
     }
+}
+
+/// The bounds and the prices of both sides.
+pub(crate) fn two_sides(
+    low: &[u8],
+    high: &[u8],
+    lower: &Option<PricedWords<'_>>,
+    upper: &Option<PricedWords<'_>>,
+) -> Option<(Bounded, Bounded)>
+    ensures none { IfNone result ((is_bound low.now && is_bound high.now && option_map_or is_priced lower.now true && option_map_or is_priced upper.now true) ≡ false) }
+    ensures low { IfSome result (λ s. low.now ≡ bound_word s.0.bound) }
+    ensures high { IfSome result (λ s. high.now ≡ bound_word s.1.bound) }
+    ensures lower { IfSome result (λ s. lower.now ≡ option_map priced_of s.0.price) }
+    ensures upper { IfSome result (λ s. upper.now ≡ option_map priced_of s.1.price) }
+    ensures good { IfSome result (λ s. (is_bound (bound_word s.0.bound) && is_bound (bound_word s.1.bound) && option_map_or is_priced (option_map priced_of s.0.price) true && option_map_or is_priced (option_map priced_of s.1.price) true) ≡ true) }
+{
+    let Some((low, high)) = two_bounds(low, high) else {
+        return None;
+    };
+    let Some(lower) = side_price(lower) else {
+        return None;
+    };
+    let Some(upper) = side_price(upper) else {
+        return None;
+    };
+    Some((
+        Bounded {
+            bound: low,
+            price: lower,
+        },
+        Bounded {
+            bound: high,
+            price: upper,
+        },
+    ))
 }

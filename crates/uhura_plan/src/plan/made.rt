@@ -1,12 +1,13 @@
-//! The requirement that a call states.
-ghost use Rattle.std.specs.Prelude.{◌≡◌, ◌<◌, None, Some, map};
-ghost use Rattle.uhura_plan.specs.Find.{literal_named};
+//! The items that calls state.
+ghost use Rattle.std.specs.Prelude.{◌≡◌, ◌<◌, false, is_none, None, Some, IsSome, map, All};
+ghost use Rattle.uhura_plan.specs.Find.{find_event, literal_named};
 ghost use Rattle.uhura_plan.specs.Sound.{IsGuardAmong};
-ghost use Rattle.uhura_plan.specs.Edits.{IsRequirementOf, requirement_refusal, unknown_in, repeated_in};
+ghost use Rattle.uhura_plan.specs.Edits.{IsRequirementOf};
+ghost use Rattle.uhura_plan.specs.Refusals.{is_end, requirement_refusal, repeated_in};
 
 use super::Plan;
 use super::slot::least_free_slot;
-use crate::{Bounded, Guard, Literal, Name, Requirement};
+use crate::{Bounded, EventRef, Guard, Literal, Name, Requirement};
 
 impl Plan {
     /// The requirement that a call states which isn't refused.
@@ -35,9 +36,18 @@ impl Plan {
         }
     }
 
+    /// The place of the controllable event from which a duration that isn't refused starts.
+    pub(super) fn start_of(&self, name: Name) -> u32
+        requires there { is_none (find_event self.now name) ≡ false }
+        requires no_end { is_end (find_event self.now name) ≡ false }
+        ensures { find_event self.now name ≡ Some (EventRef.Controllable result) }
+    {
+        self.events.get_index_of(&name).unwrap() as u32
+    }
+
     /// The guard of literals that are there, no two of them on one choice.
-    fn guard_of(&self, names: &[(Name, Name)]) -> Guard
-        requires known { unknown_in self.now 3 names.now ≡ None }
+    pub(super) fn guard_of(&self, names: &[(Name, Name)]) -> Guard
+        requires known { All (λ literal. IsSome (literal_named self.now literal)) names.now }
         requires once { repeated_in names.now ≡ None }
         ensures found { map (λ literal. Some literal) result ≡ map (literal_named self.now) names.now }
         ensures among { IsGuardAmong self.now.choices result }

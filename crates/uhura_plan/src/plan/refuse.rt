@@ -1,7 +1,10 @@
 //! Whether an edit is refused, and why.
-ghost use Rattle.std.specs.Prelude.{◌≡◌, bytes_eq};
+ghost use Rattle.std.specs.Prelude.{◌≡◌, nat_le, map, bytes_eq};
 ghost use Rattle.std.specs.List.{list_any};
-ghost use Rattle.uhura_plan.specs.Edits.{carried, unknown_in, empty_between, repeated_in, requirement_refusal};
+ghost use Rattle.uhura_plan.specs.Refusals.{refuse_if, carried, unknown_in, empty_between, repeated_at, repeated_in, requirement_refusal};
+
+mod choice;
+mod uncertain;
 
 use super::{Plan, REQUIREMENTS};
 use crate::{Bounded, EditRefusal, Name};
@@ -40,14 +43,7 @@ impl Plan {
         if let Some(refusal) = repeated_in(guard) {
             return Some(refusal);
         }
-        let has = self.requirements();
-        if has >= REQUIREMENTS {
-            return Some(EditRefusal::Full {
-                limit: REQUIREMENTS,
-                has,
-            });
-        }
-        None
+        reached(REQUIREMENTS, self.requirements())
     }
 
     /// The refusal of a guard for a name that isn't there; so many names of the call stand before it.
@@ -70,8 +66,18 @@ impl Plan {
     }
 }
 
+/// The refusal of one more thing, where as many are there as the limit allows.
+fn reached(limit: u32, has: u32) -> Option<EditRefusal>
+    ensures { result ≡ refuse_if (nat_le limit has) (EditRefusal.Full limit has) }
+{
+    if has >= limit {
+        return Some(EditRefusal::Full { limit, has });
+    }
+    None
+}
+
 /// The refusal of a lower bound above the upper bound.
-fn empty_between(lower: Option<i64>, upper: Option<i64>) -> Option<EditRefusal>
+pub(super) fn empty_between(lower: Option<i64>, upper: Option<i64>) -> Option<EditRefusal>
     ensures { result ≡ empty_between lower upper }
 {
     match (lower, upper) {
@@ -84,19 +90,29 @@ fn empty_between(lower: Option<i64>, upper: Option<i64>) -> Option<EditRefusal>
 fn repeated_in(guard: &[(Name, Name)]) -> Option<EditRefusal>
     ensures { result ≡ repeated_in guard.now }
 {
-    for (at, (choice, _)) in guard.iter().enumerate() {
-        if names_choice(&guard[..at], *choice) {
-            return Some(EditRefusal::Guard { at: carried(at) });
+    match repeated_at(guard) {
+        Some(at) => Some(EditRefusal::Guard { at: carried(at) }),
+        None => None,
+    }
+}
+
+/// The first place whose name stands at an earlier place too.
+fn repeated_at<T: Copy>(named: &[(Name, T)]) -> Option<usize>
+    ensures { result ≡ repeated_at (map (λ pair. pair.0) named.now) }
+{
+    for (at, (name, _)) in named.iter().enumerate() {
+        if has_name(&named[..at], *name) {
+            return Some(at);
         }
     }
     None
 }
 
-/// Whether one of these literals names the choice.
-fn names_choice(literals: &[(Name, Name)], choice: Name) -> bool
-    ensures { result ≡ list_any (λ names. bytes_eq choice names.0) literals.now }
+/// Whether one of these pairs has the name.
+fn has_name<T: Copy>(named: &[(Name, T)], name: Name) -> bool
+    ensures { result ≡ list_any (λ pair. bytes_eq name pair.0) named.now }
 {
-    literals.iter().any(|names| choice == names.0)
+    named.iter().any(|pair| name == pair.0)
 }
 
 /// A place as a `u32` carries it.

@@ -1,8 +1,10 @@
-//! The edits and the look-ups on one small plan, and the limits.
+//! The edits and the look-ups on one small plan.
 ghost use Rattle.uhura_plan.specs.Limits.{AreWithinLimits};
 
+mod added;
+
 use super::*;
-use crate::EventRef;
+use crate::{Bounded, EditRefusal, Price, Side};
 use std::process::Abort;
 use std::test::Fail;
 
@@ -23,26 +25,23 @@ fn bounded(bound: i16) -> Bounded
     }
 }
 
-// A requirement by its own name and those of its events, under literals that aren't there.
+// A requirement by its own name and those of its events.
 fn require(
     rt: &impl Abort,
     plan: &mut Plan,
     names: [&str; 3],
     bounds: (i16, i16),
-    guarded: bool,
 ) -> Result<(), EditRefusal> {
     let [own, from, to] = names;
     let (own, from, to) = (name(rt, own), name(rt, from), name(rt, to));
-    let literal = [(own, from)];
-    let guard = if guarded { &literal[..] } else { &[] };
-    plan.add_requirement(own, from, to, bounded(bounds.0), bounded(bounds.1), guard)
+    plan.add_requirement(own, from, to, bounded(bounds.0), bounded(bounds.1), &[])
 }
 
 fn two_events(rt: &impl Abort, alloc: Global) -> Result<Plan, Fail> {
     let mut plan = Plan::new(alloc)?;
     event(rt, &mut plan, "a")?;
     event(rt, &mut plan, "b")?;
-    require(rt, &mut plan, ["r", "a", "b"], (-5, 7), false)?;
+    require(rt, &mut plan, ["r", "a", "b"], (-5, 7))?;
     Ok(plan)
 }
 
@@ -73,17 +72,6 @@ fn there(plan: &Plan, place: u32) -> [bool; 4] {
     ]
 }
 
-// The name, the slot, the events and the bounds of a requirement, and the number of its literals.
-fn parts(r: &Requirement) -> ((Name, u32), [EventRef; 2], [Bounded; 2], usize) {
-    let literals = r.guard.literals().len();
-    (
-        (r.name, r.slot),
-        [r.from, r.to],
-        [r.lower, r.upper],
-        literals,
-    )
-}
-
 #[test]
 fn finds_by_name_and_place(rt: HostRuntime) -> Result<(), Fail> {
     let plan = two_events(&rt, rt.alloc())?;
@@ -97,70 +85,44 @@ fn finds_by_name_and_place(rt: HostRuntime) -> Result<(), Fail> {
     Ok(())
 }
 
-#[test]
-fn keeps_a_requirement(rt: HostRuntime) -> Result<(), Fail> {
-    let plan = two_events(&rt, rt.alloc())?;
-    let from = EventRef::Controllable(0);
-    let to = EventRef::Controllable(1);
-    assert_eq!(rt; plan.find_event(name(&rt, "b")), Some(to));
-    assert_eq!(rt; plan.find_event(name(&rt, "r")), None);
-    let found = plan.requirement(0).expect(&rt, "the requirement");
-    let stated = (
-        (name(&rt, "r"), 0),
-        [from, to],
-        [bounded(-5), bounded(7)],
-        0,
-    );
-    assert!(rt; parts(found) == stated);
-    Ok(())
+// What the upper side of a requirement is changed to.
+fn changed_upper() -> Bounded
+    ensures { AreWithinLimits result }
+{
+    let (rate, most) = (3, Some(4));
+    Bounded {
+        bound: Some(9),
+        price: Some(Price { rate, most }),
+    }
+}
+
+fn change_upper(plan: &mut Plan, name: Name, to: Bounded) -> Result<(), EditRefusal>
+    requires { AreWithinLimits to }
+{
+    plan.set_bound(name, Side::Upper, to.bound)?;
+    plan.set_price(name, Side::Upper, to.price)
+}
+
+// Drops a requirement, and gives a copy of the plan before.
+fn drop_from(plan: &mut Plan, name: Name) -> Result<Plan, EditRefusal> {
+    let before = plan.copy()?;
+    plan.drop_requirement(name)?;
+    Ok(before)
+}
+
+// The name, the slot and the upper side of the first requirement.
+fn first(plan: &Plan) -> Option<(Name, u32, Bounded)> {
+    let first = plan.requirement(0)?;
+    Some((first.name, first.slot, first.upper))
 }
 
 #[test]
-fn refuses_the_first_fault(rt: HostRuntime) -> Result<(), Fail> {
+fn changes_a_requirement_and_drops_it(rt: HostRuntime) -> Result<(), Fail> {
     let mut plan = two_events(&rt, rt.alloc())?;
-    assert_eq!(rt; event(&rt, &mut plan, "a"), Err(EditRefusal::Taken));
-    let unknown = |which| EditRefusal::Unknown { which };
-    let empty = EditRefusal::Empty { lower: 1, upper: 0 };
-    let cases = [
-        (["r", "c", "c"], (1, 0), true, EditRefusal::Taken),
-        (["s", "c", "c"], (1, 0), true, unknown(1)),
-        (["s", "a", "c"], (1, 0), true, unknown(2)),
-        (["s", "a", "a"], (1, 0), true, unknown(3)),
-        (["s", "a", "a"], (1, 0), false, EditRefusal::Kind),
-        (["s", "a", "b"], (1, 0), false, empty),
-    ];
-    for (names, bounds, guarded, want) in cases {
-        assert_eq!(rt;
-            require(&rt, &mut plan, names, bounds, guarded),
-            Err(want),
-            "at {want}"
-        );
-    }
-    assert_eq!(rt;
-        require(&rt, &mut plan, ["s", "a", "b"], (0, 0), false),
-        Ok(())
-    );
-    Ok(())
-}
-
-#[test]
-fn is_full_at_its_limits(rt: HostRuntime) -> Result<(), Fail> {
-    let mut plan = Plan::new(rt.alloc())?;
-    for number in 0..512 {
-        let text = format!(in rt.alloc(); "e{number}")?;
-        event(&rt, &mut plan, text.as_str())?;
-    }
-    let (limit, has) = (512, 512);
-    assert_eq!(rt;
-        event(&rt, &mut plan, "f"),
-        Err(EditRefusal::Full { limit, has })
-    );
-    for number in 0..2048 {
-        let text = format!(in rt.alloc(); "r{number}")?;
-        require(&rt, &mut plan, [text.as_str(), "e0", "e1"], (0, 0), false)?;
-    }
-    let (limit, has) = (2048, 2048);
-    let refused = require(&rt, &mut plan, ["s", "e0", "e1"], (0, 0), false);
-    assert_eq!(rt; refused, Err(EditRefusal::Full { limit, has }));
+    let r = name(&rt, "r");
+    change_upper(&mut plan, r, changed_upper())?;
+    let before = drop_from(&mut plan, r)?;
+    assert!(rt; first(&plan).is_none());
+    assert!(rt; first(&before) == Some((r, 0, changed_upper())));
     Ok(())
 }

@@ -5,7 +5,7 @@ use Rattle.uhura_veto.specs.State.{State}
 use Rattle.uhura_worst.specs.Proposal.{Proposal, Meets}
 use Rattle.uhura_worst.specs.Cost.{cost}
 use Rattle.uhura_worst.specs.Best.{IsBest}
-use Rattle.uhura_worst.proofs.Branches.{compare, same-branch}
+use Rattle.uhura_choice.proofs.Earlier.{compare, same-branch}
 use Rattle.uhura_worst.proofs.examples.best_is_settled.Goals as goal
 
 -- the one costs at most as much as the other

@@ -3,7 +3,6 @@ use Rattle.std.proofs.Common.{◌∷◌, ◌++◌, [], is_some, length, sym, ap,
 use Rattle.std.proofs.lemmas.List.{length_push}
 use Rattle.uhura_plan.specs.Find.{literal_named}
 use Rattle.uhura_plan.proofs.Building.{built_none, next_new, built_next, few_literals}
-use Rattle.uhura_plan.proofs.Refusals.{literal_known}
 use Rattle.uhura_plan.proofs.plan.Plan.guard_of.Goals as goal
 
 pub loop-choice-init : goal.loop-choice-init
@@ -12,7 +11,7 @@ loop-choice-init c = rw c.empty-guard.ensures (built_none c.args.self.now)
 pub unwrap-literal-requires : goal.unwrap-literal-requires
 unwrap-literal-requires c =
     ap is_some (c.literal.ensures ∙ ap (literal_named c.args.self.now) c.loop-choice-item.is)
-    ∙ literal_known c.args.self.now 3 c.args.names.now c.loop-choice.choice-index c.loop-choice-item.result c.requires.known c.loop-choice-test.true
+    ∙ c.requires.known c.loop-choice.choice-index c.loop-choice-item.result c.loop-choice-test.true
 
 pub add-requires-clause-room : goal.add-requires-clause-room
 add-requires-clause-room c =

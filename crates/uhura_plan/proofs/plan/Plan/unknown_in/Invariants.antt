@@ -1,6 +1,6 @@
 use Rattle.std.proofs.Common.{◌≡◌, ◌+◌, ◌*◌, false, not, take}
 use Rattle.std.specs.List.{list_any}
-use Rattle.uhura_plan.specs.Edits.{carried, known_names}
+use Rattle.uhura_plan.specs.Refusals.{carried, known_names}
 use Rattle.uhura_plan.proofs.plan.Plan.unknown_in.Given as goal
 
 -- the names so far are known, and are counted

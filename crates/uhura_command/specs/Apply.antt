@@ -1,0 +1,78 @@
+-- What a command that edits makes of a state, or why it is refused.
+use Rattle.std.specs.Prelude.{◌≡◌, Option, Some, None, option_map, Result, Ok, Err, alloc_error, ⊤}
+use Rattle.uhura_plan.specs.declared.refusal.EditRefusal.{EditRefusal}
+use Rattle.uhura_plan.specs.declared.refusal.EditRefusal.TheVariants as edit
+use Rattle.uhura_plan.specs.Lists.{Lists}
+use Rattle.uhura_plan.specs.Refusals.{event_refusal, uncertain_refusal, choice_refusal, requirement_refusal, no_requirement, no_uncertain, bound_refusal, range_refusal, preference_refusal}
+use Rattle.uhura_plan.specs.Edits.{with_event, AddsUncertain, AddsChoice, AddsRequirement}
+use Rattle.uhura_plan.specs.Changes.{with_bound, with_price, with_rate, with_range, with_cost, change_requirement, change_uncertain, change_choice, without_requirement}
+use Rattle.uhura_veto.specs.State.{State}
+use Rattle.uhura_command.specs.declared.command.Command.{Command}
+use Rattle.uhura_command.specs.declared.command.Command.TheVariants as command
+use Rattle.uhura_command.specs.declared.state.refusal.StateRefusal.{StateRefusal}
+use Rattle.uhura_command.specs.declared.state.refusal.StateRefusal.TheVariants.{Taken, Unknown, Kind, Empty, Guard, Full, Unbuilt, Memory}
+
+-- the command edits the state: it isn't a question
+abbrev pub IsEdit : Command → Type 0
+IsEdit command.Show = ⊥
+IsEdit command.Propose = ⊥
+IsEdit command.Prove = ⊥
+IsEdit c = Unit {0}
+
+-- a state's refusal for the refusal of an edit of its plan
+abbrev pub of_edit : EditRefusal → StateRefusal
+of_edit edit.Taken = Taken
+of_edit (edit.Unknown which) = Unknown
+of_edit edit.Kind = Kind
+of_edit (edit.Empty lower upper) = Empty lower upper
+of_edit (edit.Guard at) = Guard at
+of_edit (edit.Full limit has) = Full limit has
+of_edit (edit.Memory error) = Memory error
+
+-- the first refusal of an edit of the plan, where it has one
+abbrev pub edit_refusal : Lists → Command → Option EditRefusal
+edit_refusal plan (command.Event name) = event_refusal plan name
+edit_refusal plan (command.Uncertain name start end lower upper lower_rate upper_rate) = uncertain_refusal plan name start end lower upper
+edit_refusal plan (command.Choice name alternatives guard) = choice_refusal plan name alternatives guard
+edit_refusal plan (command.Require name from to lower upper guard) = requirement_refusal plan name from to lower upper guard
+edit_refusal plan (command.Drop name) = no_requirement plan name
+edit_refusal plan (command.Bound name side bound) = bound_refusal plan name side bound
+edit_refusal plan (command.Price name side price) = no_requirement plan name
+edit_refusal plan (command.Rate name side rate) = no_uncertain plan name
+edit_refusal plan (command.Range name lower upper) = range_refusal plan name lower upper
+edit_refusal plan (command.Prefer choice alternative cost) = preference_refusal plan choice alternative
+edit_refusal plan c = None
+
+-- the first refusal of a command, where it has one. Vetoes can't be made yet
+abbrev pub refusal_of : State → Command → Option StateRefusal
+refusal_of state (command.Deny name literals) = Some Unbuilt
+refusal_of state (command.Cap name item side units) = Some Unbuilt
+refusal_of state (command.Withdraw name) = Some Unbuilt
+refusal_of state c = option_map of_edit (edit_refusal state.plan c)
+
+-- the new plan is what the command makes of the old one
+abbrev pub Edits : Lists → Command → Lists → Type 0
+Edits old (command.Event name) new = new ≡ with_event old name
+Edits old (command.Uncertain name start end lower upper lower_rate upper_rate) new = AddsUncertain old new name start end lower upper lower_rate upper_rate
+Edits old (command.Choice name alternatives guard) new = AddsChoice old new name alternatives guard
+Edits old (command.Require name from to lower upper guard) new = AddsRequirement old new name from to lower upper guard
+Edits old (command.Drop name) new = new ≡ without_requirement name old
+Edits old (command.Bound name side bound) new = new ≡ change_requirement (with_bound side bound) name old
+Edits old (command.Price name side price) new = new ≡ change_requirement (with_price side price) name old
+Edits old (command.Rate name side rate) new = new ≡ change_uncertain (with_rate side rate) name old
+Edits old (command.Range name lower upper) new = new ≡ change_uncertain (with_range lower upper) name old
+Edits old (command.Prefer choice alternative cost) new = new ≡ change_choice (with_cost alternative cost) choice old
+Edits old c new = new ≡ old
+
+-- a command that edits makes the next state of this one: it has no refusal, and only what it names is edited
+pub record Applies (state : State) (c : Command) (next : State) : Type 0 where
+  pub edits : IsEdit c
+  pub accepted : refusal_of state c ≡ None
+  pub plan : Edits state.plan c next.plan
+  pub vetoes : next.vetoes ≡ state.vetoes
+
+-- the command is answered by its first refusal; where it has none, it succeeds or wants memory
+abbrev pub AnswersFirst : Option StateRefusal → Result ⊤ StateRefusal → Type 0
+AnswersFirst (Some refusal) result = result ≡ Err refusal
+AnswersFirst None (Ok done) = ⊤
+AnswersFirst None (Err refusal) = refusal ≡ Memory alloc_error

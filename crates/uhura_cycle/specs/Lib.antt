@@ -1,0 +1,4 @@
+pub mod Verdict
+pub mod Steps
+pub mod Descent
+pub mod Trail

@@ -1,0 +1,60 @@
+//! Following an edge, and each edge once.
+ghost use Rattle.std.specs.Prelude.{◌≡◌, ◌+◌, ℕ, ◌^◌, ◌≤ℤ◌, ℤ, pos, negsuc, Some, length};
+ghost use Rattle.std.specs.List.{All};
+ghost use Rattle.uhura_net.specs.Table.{IsEdgeFor};
+ghost use Rattle.uhura_net.specs.Edges.{Edges, time_at};
+ghost use Rattle.uhura_cycle.specs.Steps.{AreThere, AreSoundSteps, HasTimesFrom, IsRelaxed};
+ghost use Rattle.uhura_cycle.specs.Descent.{History, IsAfterPasses, IsPass};
+
+use crate::step::Step;
+use uhura_net::NODES;
+
+/// Follows each step once, until a time falls below `lowest`, and gives the node that was lowered last.
+pub(crate) fn pass(
+    steps: &[Step],
+    lowest: i64,
+    times: &mut [i64],
+    backs: &mut [Option<Step>],
+) -> Option<u32>
+    requires steps { AreSoundSteps steps.now }
+    requires lowest { negsuc (2 ^ 61) ≤ℤ lowest }
+    requires times { length times.old ≡ NODES }
+    requires backs { length backs.old ≡ NODES }
+    requires above { HasTimesFrom lowest times.old }
+    requires most { (node : ℕ) → time_at times.old node ≤ℤ pos 0 }
+    ensures times { length times.new ≡ NODES }
+    ensures backs { length backs.new ≡ NODES }
+    ensures pass { (edges : Edges) (passes : ℕ) (history : History) → AreThere edges steps.now →
+        IsAfterPasses edges steps.now passes lowest times.old backs.old history →
+        IsPass edges steps.now (passes + 1) lowest times.new backs.new result }
+{
+    let mut last = None;
+    for step in steps {
+        if relax(*step, times, backs) {
+            last = Some(step.edge.to);
+            if times[step.edge.to as usize] < lowest {
+                return last;
+            }
+        }
+    }
+    last
+}
+
+// Lowers the time of the edge's end to what the edge allows, where it is above that, and says whether it was.
+fn relax(step: Step, times: &mut [i64], backs: &mut [Option<Step>]) -> bool
+    requires step { IsEdgeFor step.place.0 step.edge }
+    requires times { length times.old ≡ NODES }
+    requires backs { length backs.old ≡ NODES }
+    requires low { negsuc (2 ^ 61) ≤ℤ time_at times.old step.edge.from }
+    requires high { time_at times.old step.edge.from ≤ℤ pos 0 }
+    ensures { IsRelaxed step times.old backs.old times.new backs.new result }
+{
+    let allowed = times[step.edge.from as usize] + step.edge.bound;
+    if allowed < times[step.edge.to as usize] {
+        times[step.edge.to as usize] = allowed;
+        backs[step.edge.to as usize] = Some(step);
+        true
+    } else {
+        false
+    }
+}

@@ -1,0 +1,17 @@
+mod Cancelling
+pub mod Clones
+mod Cycles
+pub mod Duality
+mod Empty
+pub mod Firm
+mod Loops
+mod Moves
+pub mod Outweighing
+pub mod Paying
+mod Prices
+mod Pushing
+pub mod Rows
+pub mod Scaled
+mod Setting
+pub mod Sums
+pub mod Walks

@@ -1,0 +1,111 @@
+//! Every edge that a plan can have stands at a place of its own. A requirement in slot `s` has the places from `4 * s`
+//! on, and duration `d` those from `8192 + 5 * d` on, each in the order lower loose, lower firm, upper loose,
+//! upper firm; a duration has its order edge last.
+ghost use Rattle.std.specs.Prelude.{◌≡◌, ◌+◌, ◌<◌};
+ghost use Rattle.uhura_net.specs.Place.{first_place, loose_row, firm_row, place_number, IsPlacedItem, HasPlace};
+
+use uhura_plan::{EdgeKey, Item, Side, SideKey};
+
+/// The number of places.
+pub const PLACES: usize = 9472;
+
+/// The first place of a duration, behind 2,048 slots with four places each.
+const FIRST_OF_DURATIONS: u32 = 8192;
+
+/// The number of a place, below `PLACES`.
+#[derive(Clone, Copy, Debug, PartialEq, Eq)]
+pub struct Place(pub u32);
+
+/// The place of an edge.
+pub fn place_of(key: EdgeKey) -> Place
+    requires { HasPlace key }
+    ensures place { result.0 ≡ place_number key }
+    ensures below { result.0 < PLACES }
+{
+    match key {
+        EdgeKey::Loose(side) => Place(first_place(side.item) + loose_row(side.side)),
+        EdgeKey::Firm(side) => Place(first_place(side.item) + loose_row(side.side) + 1),
+        EdgeKey::Order(duration) => Place(first_place(Item::Uncertain(duration)) + 4),
+    }
+}
+
+/// The edge that stands at a place.
+pub fn key_of(place: Place) -> EdgeKey
+    requires { place.0 < PLACES }
+    ensures place { place_number result ≡ place.0 }
+    ensures has_place { HasPlace result }
+{
+    let number = place.0;
+    if number < FIRST_OF_DURATIONS {
+        return key_in_row(Item::Requirement(number / 4), number % 4);
+    }
+    let duration = (number - FIRST_OF_DURATIONS) / 5;
+    let row = (number - FIRST_OF_DURATIONS) % 5;
+    if row == 4 {
+        return EdgeKey::Order(duration);
+    }
+    key_in_row(Item::Uncertain(duration), row)
+}
+
+// Where the table of an item begins.
+fn first_place(item: Item) -> u32
+    requires { IsPlacedItem item }
+    ensures first { result ≡ first_place item }
+    ensures small { result < 9468 }
+{
+    match item {
+        Item::Requirement(slot) => 4 * slot,
+        Item::Uncertain(duration) => FIRST_OF_DURATIONS + 5 * duration,
+    }
+}
+
+// The row of a side's loose edge, behind which its firm edge has its row.
+fn loose_row(side: Side) -> u32
+    ensures row { result ≡ loose_row side }
+    ensures firm { result + 1 ≡ firm_row side }
+    ensures small { result < 3 }
+{
+    match side {
+        Side::Lower => 0,
+        Side::Upper => 2,
+    }
+}
+
+// The edge of a side in one of the first four rows.
+fn key_in_row(item: Item, row: u32) -> EdgeKey
+    requires { row < 4 }
+    ensures place { place_number result ≡ first_place item + row }
+    ensures has_place { IsPlacedItem item → HasPlace result }
+{
+    let side = if row < 2 { Side::Lower } else { Side::Upper };
+    let key = SideKey { item, side };
+    if row % 2 == 0 {
+        EdgeKey::Loose(key)
+    } else {
+        EdgeKey::Firm(key)
+    }
+}
+
+#[cfg(test)]
+mod tests {
+    use super::*;
+
+    #[test]
+    fn places_edges_by_item_and_row(rt: HostRuntime) {
+        let side = |item, side| SideKey { item, side };
+        let table: [(EdgeKey, u32); 5] = [
+            (EdgeKey::Loose(side(Item::Requirement(0), Side::Lower)), 0),
+            (EdgeKey::Firm(side(Item::Requirement(7), Side::Upper)), 31),
+            (
+                EdgeKey::Loose(side(Item::Requirement(2047), Side::Upper)),
+                8190,
+            ),
+            (EdgeKey::Firm(side(Item::Uncertain(0), Side::Lower)), 8193),
+            (EdgeKey::Order(255), 9471),
+        ];
+        for (key, number) in table {
+            assert_eq!(rt; place_of(key), Place(number));
+            assert_eq!(rt; key_of(Place(number)), key);
+        }
+    }
+}

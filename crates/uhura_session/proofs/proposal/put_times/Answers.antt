@@ -1,0 +1,34 @@
+use Rattle.std.proofs.Common.{rules, subst, ◌≡◌, ◌++◌, ◌+◌, [], ◌∷◌, drop, ap, sym, arith}
+use Rattle.std.specs.Prelude.{slice_get, Some, None, codes}
+use Rattle.std.proofs.lemmas.Int.{ints}
+use mir.Val.{SFits, to_z, of_z}
+use mir.Syntax.{w64}
+use Rattle.uhura_text.specs.Number.{spelling}
+use Rattle.uhura_command.specs.Written.{line_of}
+use Rattle.uhura_session.specs.ProposalText.{time_lines}
+use Rattle.uhura_session.specs.Schedule.{time_at}
+use Rattle.uhura_session.proofs.Walk.{left_at, ended_at, extended}
+use Rattle.uhura_session.proofs.proposal.put_times.Goals as goal
+use Rattle.uhura_session.proofs.proposal.put_times.Goals.{in-Some+in_ok-put_time, in_default}
+
+pub loop-event-preserved : goal.loop-event-preserved
+loop-event-preserved c =
+    let names = c.args.plan.now.events in
+    let times = time_at c.args.times.now in
+    let e = c.loop-event.event in
+    elim c.match-event.branch [
+      | in-Some+in_ok-put_time w ↦
+          let there : slice_get names e ≡ Some w.in-Some.name = sym w.in-Some.ensures in
+          let fits : SFits w64 (times e) = search rules in
+          let read : to_z w64 (of_z w64 (times e)) ≡ times e = omega (arith, ints) in
+          let written : w.put_time.new.text.items ≡ c.loop-event.text.items ++ line_of (codes "at" ∷ w.in-Some.name ∷ spelling (times e) ∷ []) =
+          subst (λ t. w.put_time.new.text.items ≡ c.loop-event.text.items ++ line_of (codes "at" ∷ w.in-Some.name ∷ spelling t ∷ [])) read w.in_ok-put_time.ensures in
+          rw w.text-is
+          (extended _ _ (line_of (codes "at" ∷ w.in-Some.name ∷ spelling (times e) ∷ [])) (time_lines times (e + 1) (drop (e + 1) names)) (time_lines times e (drop e names)) _
+          written
+          (ap (time_lines times e) (left_at names e w.in-Some.name there))
+          c.loop-event.invariant)
+      | in_default w ↦
+          let none : slice_get names e ≡ None = sym w.in_default.ensures in
+          absurd (omega (arith, ended_at names e none, c.loop-event-test.true, c.events-event-end.ensures.count))
+    ]

@@ -1,0 +1,2 @@
+mod Caps
+pub mod SoundRooms

@@ -1,0 +1,45 @@
+-- A table that holds the edges of a state.
+use Rattle.std.specs.Prelude.{◌≡◌, ℕ, Bool, false, if◌then◌else◌, nat_eq, List, take, Option, None, slice_index_or}
+use Rattle.uhura_plan.specs.declared.key.Item.{Item}
+use Rattle.uhura_plan.specs.declared.key.EdgeKey.{EdgeKey}
+use Rattle.uhura_plan.specs.declared.key.EdgeKey.TheVariants.{Loose, Firm, Order}
+use Rattle.uhura_net.specs.declared.edge.Edge.{Edge}
+use Rattle.uhura_net.specs.Place.{place_number, HasPlace}
+use Rattle.uhura_veto.specs.State.{State}
+use Rattle.uhura_veto.specs.Room.{is_same_item, is_same_key}
+use Rattle.uhura_worst.specs.Edges.{edge_of, item_of}
+
+-- what a table holds at the place of a key
+abbrev pub held : List (Option Edge) → EdgeKey → Option Edge
+held table key = slice_index_or table (place_number key) None
+
+-- the table holds the edge of each key
+abbrev pub IsTableOf : State → List (Option Edge) → Type 0
+IsTableOf state table = (key : EdgeKey) → HasPlace key → held table key ≡ edge_of state key
+
+-- the state with its first requirements and durations alone, so many of each
+abbrev pub first_items : State → ℕ → ℕ → State
+first_items state requirements durations = record {
+  plan = record state.plan { requirements = take requirements state.plan.requirements; uncertains = take durations state.plan.uncertains };
+  vetoes = state.vetoes;
+}
+
+-- the two keys name one edge
+abbrev pub is_same_edge : EdgeKey → EdgeKey → Bool
+is_same_edge (Loose a) (Loose b) = is_same_key a b
+is_same_edge (Loose a) (Firm b) = false
+is_same_edge (Loose a) (Order e) = false
+is_same_edge (Firm a) (Loose b) = false
+is_same_edge (Firm a) (Firm b) = is_same_key a b
+is_same_edge (Firm a) (Order e) = false
+is_same_edge (Order d) (Loose b) = false
+is_same_edge (Order d) (Firm b) = false
+is_same_edge (Order d) (Order e) = nat_eq d e
+
+-- the new table holds an edge at the key's place, and the old table's elsewhere
+abbrev pub Puts : EdgeKey → Option Edge → List (Option Edge) → List (Option Edge) → Type 0
+Puts key edge old new = (other : EdgeKey) → HasPlace other → held new other ≡ (if is_same_edge key other then edge else held old other)
+
+-- the new table holds these edges at the places of an item, and the old table's elsewhere
+abbrev pub PutsItem : Item → (EdgeKey → Option Edge) → List (Option Edge) → List (Option Edge) → Type 0
+PutsItem item edges old new = (key : EdgeKey) → HasPlace key → held new key ≡ (if is_same_item item (item_of key) then edges key else held old key)

@@ -1,0 +1,138 @@
+//! The table of the edges of a plan.
+ghost use Rattle.std.specs.Prelude.{◌≡◌, ℕ, ◌<◌, length, None, IfSome, slice_index_or};
+ghost use Rattle.uhura_plan.specs.declared.key.Item.TheVariants as item;
+ghost use Rattle.uhura_plan.specs.Sound.{IsSoundUncertain};
+ghost use Rattle.uhura_net.specs.Place.{place_number, HasPlace};
+ghost use Rattle.uhura_net.specs.Table.{IsEdgeFor};
+ghost use Rattle.uhura_veto.specs.State.{State};
+ghost use Rattle.uhura_worst.specs.Nodes.{HasNodes};
+ghost use Rattle.uhura_worst.specs.Edges.{requirement_edge, duration_edge};
+ghost use Rattle.uhura_worst.specs.Filled.{IsTableOf, first_items, Puts, PutsItem};
+
+use crate::edges::{duration_edge, requirement_edge};
+use uhura_net::{Edge, EdgeTable, PLACES, Place, place_of};
+use uhura_plan::{EdgeKey, Item, Plan, Requirement, Side, SideKey, Uncertain};
+use uhura_veto::Vetoes;
+
+/// Makes each place hold the edge of its key. Besides one clearing of the table it takes time in the size of the plan
+/// alone.
+pub fn fill(table: &mut EdgeTable, plan: &Plan, vetoes: &Vetoes)
+    ensures { IsTableOf (record { plan = plan.now; vetoes = vetoes.now }) table.new }
+{
+    clear(table);
+    put_requirements(table, plan, vetoes);
+    put_durations(table, plan, vetoes);
+}
+
+// Empties each place.
+fn clear(table: &mut EdgeTable)
+    ensures { (place : ℕ) → place < 9472 → slice_index_or table.new place None ≡ None }
+{
+    for place in 0..PLACES as u32 {
+        table.put(Place(place), None);
+    }
+}
+
+// Puts the edges of all requirements into an empty table.
+fn put_requirements(table: &mut EdgeTable, plan: &Plan, vetoes: &Vetoes)
+    requires { (place : ℕ) → place < 9472 → slice_index_or table.old place None ≡ None }
+    ensures { IsTableOf (first_items (record { plan = plan.now; vetoes = vetoes.now }) (length plan.now.requirements) 0) table.new }
+{
+    for position in 0..plan.requirements() {
+        put_requirement(table, vetoes, plan.requirement(position).unwrap());
+    }
+}
+
+// Puts the edges of all durations into a table of those of the requirements.
+fn put_durations(table: &mut EdgeTable, plan: &Plan, vetoes: &Vetoes)
+    requires { IsTableOf (first_items (record { plan = plan.now; vetoes = vetoes.now }) (length plan.now.requirements) 0) table.old }
+    ensures { IsTableOf (record { plan = plan.now; vetoes = vetoes.now }) table.new }
+{
+    for duration in 0..plan.uncertains() {
+        put_duration(table, vetoes, duration, plan.uncertain(duration).unwrap());
+    }
+}
+
+// Puts the edges of a requirement.
+fn put_requirement(table: &mut EdgeTable, vetoes: &Vetoes, requirement: &Requirement)
+    requires slot { requirement.now.slot < 2048 }
+    requires nodes { HasNodes requirement.now }
+    ensures { PutsItem (item.Requirement requirement.now.slot) (requirement_edge vetoes.now requirement.now) table.old table.new }
+{
+    let item = Item::Requirement(requirement.slot);
+    let lower = SideKey {
+        item,
+        side: Side::Lower,
+    };
+    let upper = SideKey {
+        item,
+        side: Side::Upper,
+    };
+    put_requirement_edge(table, vetoes, requirement, EdgeKey::Loose(lower));
+    put_requirement_edge(table, vetoes, requirement, EdgeKey::Firm(lower));
+    put_requirement_edge(table, vetoes, requirement, EdgeKey::Loose(upper));
+    put_requirement_edge(table, vetoes, requirement, EdgeKey::Firm(upper));
+}
+
+// Puts one of the edges of a requirement.
+fn put_requirement_edge(
+    table: &mut EdgeTable,
+    vetoes: &Vetoes,
+    requirement: &Requirement,
+    key: EdgeKey,
+)
+    requires nodes { HasNodes requirement.now }
+    requires placed { HasPlace key }
+    ensures { Puts key (requirement_edge vetoes.now requirement.now key) table.old table.new }
+{
+    let edge = requirement_edge(vetoes, requirement, key);
+    put(table, key, edge);
+}
+
+// Puts the edges of the duration in this place.
+fn put_duration(table: &mut EdgeTable, vetoes: &Vetoes, duration: u32, uncertain: &Uncertain)
+    requires place { duration < 256 }
+    requires sound { IsSoundUncertain 512 uncertain.now }
+    ensures { PutsItem (item.Uncertain duration) (duration_edge vetoes.now duration uncertain.now) table.old table.new }
+{
+    let item = Item::Uncertain(duration);
+    let lower = SideKey {
+        item,
+        side: Side::Lower,
+    };
+    let upper = SideKey {
+        item,
+        side: Side::Upper,
+    };
+    put_duration_edge(table, vetoes, duration, uncertain, EdgeKey::Loose(lower));
+    put_duration_edge(table, vetoes, duration, uncertain, EdgeKey::Firm(lower));
+    put_duration_edge(table, vetoes, duration, uncertain, EdgeKey::Loose(upper));
+    put_duration_edge(table, vetoes, duration, uncertain, EdgeKey::Firm(upper));
+    put_duration_edge(table, vetoes, duration, uncertain, EdgeKey::Order(duration));
+}
+
+// Puts one of the edges of the duration in this place.
+fn put_duration_edge(
+    table: &mut EdgeTable,
+    vetoes: &Vetoes,
+    duration: u32,
+    uncertain: &Uncertain,
+    key: EdgeKey,
+)
+    requires place { duration < 256 }
+    requires sound { IsSoundUncertain 512 uncertain.now }
+    requires placed { HasPlace key }
+    ensures { Puts key (duration_edge vetoes.now duration uncertain.now key) table.old table.new }
+{
+    let edge = duration_edge(vetoes, duration, uncertain, key);
+    put(table, key, edge);
+}
+
+// Puts an edge, or none, at the place of its key.
+fn put(table: &mut EdgeTable, key: EdgeKey, edge: Option<Edge>)
+    requires placed { HasPlace key }
+    requires fits { IfSome edge (IsEdgeFor (place_number key)) }
+    ensures { Puts key edge table.old table.new }
+{
+    table.put(place_of(key), edge);
+}

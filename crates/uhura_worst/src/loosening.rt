@@ -1,0 +1,100 @@
+//! By how much sides are loosened or narrowed.
+ghost use Rattle.std.specs.Prelude.{◌≡◌, [], ◌∷◌, ◌++◌, ◌≤◌, is_ok, if◌then◌else◌};
+ghost use Rattle.uhura_veto.specs.Room.{is_same_key};
+ghost use Rattle.uhura_worst.specs.Units.{units_in, AreUnits, IsLoosening};
+
+use std::alloc::{AllocError, Global};
+use std::marker::Model;
+use uhura_plan::SideKey;
+
+/// Sides with their units above 0, each side at most once, in the order in which they were added.
+#[derive(Drop)]
+pub struct Loosening {
+    pairs: Vec<(SideKey, u64)>,
+}
+
+impl Model for Loosening {
+    ghost use Rattle.std.specs.Prelude.{List, ℕ};
+    ghost use Rattle.uhura_plan.specs.declared.key.SideKey.{SideKey};
+    ghost use Rattle.uhura_worst.specs.Units.{IsLoosening};
+
+    ghost Value = { List (SideKey × ℕ) };
+
+    ghost view = { λ l. l.pairs.items };
+
+    ghost invariant = { λ l. IsLoosening l.pairs.items };
+}
+
+impl Loosening {
+    /// No side is loosened or narrowed.
+    pub fn new(alloc: Global) -> Loosening
+        ensures { result ≡ [] }
+    {
+        Loosening {
+            pairs: Vec::new(alloc),
+        }
+    }
+
+    /// Adds a side that has no units yet.
+    pub fn add(&mut self, key: SideKey, units: u64) -> Result<(), AllocError>
+        requires fresh { units_in self.old key ≡ 0 }
+        requires units { AreUnits units }
+        ensures { self.new ≡ (if is_ok result then self.old ++ (key, units) ∷ [] else self.old) }
+    {
+        self.pairs.push((key, units))?;
+        Ok(())
+    }
+
+    /// The sides with their units.
+    pub fn pairs(&self) -> &[(SideKey, u64)]
+        ensures pairs { result.now ≡ self.now }
+        ensures sound { IsLoosening self.now }
+    {
+        self.pairs.as_slice()
+    }
+
+    /// The units of a side, 0 where none were added.
+    pub fn units(&self, key: SideKey) -> u64
+        ensures { result ≡ units_in self.now key }
+    {
+        units_of(self.pairs.as_slice(), key)
+    }
+}
+
+// The units that the pairs give a side.
+fn units_of(pairs: &[(SideKey, u64)], key: SideKey) -> u64
+    ensures { result ≡ units_in pairs.now key }
+{
+    for (side, units) in pairs {
+        if is_same_key(*side, key) {
+            return *units;
+        }
+    }
+    0
+}
+
+// Whether two keys name one side.
+fn is_same_key(a: SideKey, b: SideKey) -> bool
+    ensures { result ≡ is_same_key a b }
+{
+    a == b
+}
+
+#[cfg(test)]
+mod tests {
+    use super::*;
+    use uhura_plan::{Item, Side};
+
+    #[test]
+    fn adds_sides_in_order(rt: HostRuntime) {
+        let key = |slot, side| SideKey {
+            item: Item::Requirement(slot),
+            side,
+        };
+        let mut loosening = Loosening::new(rt.alloc());
+        loosening.add(key(7, Side::Upper), 3).expect(&rt, "memory");
+        assert_eq!(rt; loosening.units(key(7, Side::Upper)), 3);
+        assert_eq!(rt; loosening.units(key(7, Side::Lower)), 0);
+        assert_eq!(rt; loosening.pairs().len(), 1);
+    }
+}
