@@ -1,10 +1,10 @@
 //! The earliest schedule of a branch with some sides loosened or narrowed.
 #![tactic(auto)]
 
-mod earliest;
 mod refusal;
+mod relaxing;
 mod schedule;
 
-pub use earliest::earliest;
 pub use refusal::RelaxRefusal;
+pub use relaxing::earliest;
 pub use schedule::Schedule;
