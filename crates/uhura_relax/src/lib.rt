@@ -1,6 +1,7 @@
 //! The earliest schedule of a branch with some sides loosened or narrowed.
 #![tactic(auto)]
 
+mod loosened;
 mod refusal;
 mod relaxing;
 mod schedule;
