@@ -40,20 +40,15 @@ impl Tables for Loosened<'_> {
     ghost tables = { λ l. turned_tables l.branch.now (units_in l.loosening.now) };
 
     fn requirement_edge(&self, requirement: &Requirement, key: EdgeKey) -> Option<Edge> {
-        match key {
-            EdgeKey::Firm(side) => {
-                if holds(&requirement.guard, self.branch) {
-                    match Constraint::of_requirement(side.side, requirement) {
-                        Some(constraint) => {
-                            Some(turned_edge(constraint, self.loosening.units(side)))
-                        }
-                        None => None,
-                    }
-                } else {
-                    None
-                }
-            }
-            EdgeKey::Loose(_) | EdgeKey::Order(_) => None,
+        let EdgeKey::Firm(side) = key else {
+            return None;
+        };
+        if !holds(&requirement.guard, self.branch) {
+            return None;
+        }
+        match Constraint::of_requirement(side.side, requirement) {
+            Some(constraint) => Some(turned_edge(constraint, self.loosening.units(side))),
+            None => None,
         }
     }
 
