@@ -5,6 +5,8 @@
 mod cap;
 mod room;
 pub mod rooms;
+#[cfg(test)]
+mod tests;
 mod veto;
 mod vetoes;
 
