@@ -9,6 +9,8 @@ pub mod examples;
 mod filling;
 mod loosening;
 mod node;
+#[cfg(test)]
+mod tests;
 pub mod worst_case;
 
 pub use edges::edge;
