@@ -10,6 +10,8 @@ mod filling;
 mod loosening;
 mod node;
 mod tables;
+#[cfg(test)]
+mod tests;
 pub mod worst_case;
 
 pub use edges::edge;
