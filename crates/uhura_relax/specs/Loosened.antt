@@ -39,11 +39,11 @@ abbrev pub AreLoosenedEdges : Lists → List Pick → (SideKey → ℕ) → Edge
 AreLoosenedEdges plan branch units edges = (place : ℕ) (edge : Edge) → edges place ≡ Some edge →
     (key : EdgeKey) × HasPlace key × (place ≡ place_number key) × (loosened_edge_of plan branch units key ≡ Some edge)
 
--- the edge with its ends exchanged
+-- an edge turned around: it leads from the node to which it led
 abbrev pub turned : Edge → Edge
 turned edge = record { from = edge.to; to = edge.from; bound = edge.bound; capacity = edge.capacity }
 
--- the tables of the loosened edges, each turned around
+-- the loosened tables with each edge turned around
 abbrev pub turned_tables : List Pick → (SideKey → ℕ) → Tables
 turned_tables branch units = record {
   of_requirement = λ r key. option_map turned (loosened_requirement branch units r key);
