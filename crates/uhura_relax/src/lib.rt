@@ -6,6 +6,8 @@ mod loosened;
 mod refusal;
 mod relaxing;
 mod schedule;
+#[cfg(test)]
+mod tests;
 
 pub use refusal::RelaxRefusal;
 pub use relaxing::earliest;
