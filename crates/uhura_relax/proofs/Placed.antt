@@ -14,12 +14,12 @@ use Rattle.uhura_plan.specs.Find.{requirement_in}
 use Rattle.uhura_choice.specs.declared.prefix.Pick.{Pick}
 use Rattle.uhura_net.specs.declared.edge.Edge.{Edge}
 use Rattle.uhura_net.specs.Edges.{Edges, chosen_edges}
-use Rattle.uhura_net.specs.Place.{place_number, HasPlace}
+use Rattle.uhura_net.specs.Place.{place_number, HasPlace, StandsAt}
 use Rattle.uhura_worst.specs.Edges.{edge_among, item_of}
 use Rattle.uhura_worst.specs.Filled.{IsFilledBy}
 use Rattle.uhura_relax.specs.Loosened.{loosened_tables, loosened_edge_of, turned, turned_tables, AreLoosenedEdges}
 use Rattle.uhura_relax.proofs.Turning.{turned_edges, turned-twice}
-use Rattle.uhura_relax.proofs.Keys.{IsKeyAt, key_at}
+use Rattle.uhura_net.proofs.Keys.{key_at}
 
 -- each place below 9,472 is chosen, and no other
 pub record AreAllChosen (chosen : List Bool) : Type 0 where
@@ -78,11 +78,11 @@ AreAtTheirPlaces-turned plan branch units table chosen all filled = record {
   loosened = λ place edge is.
       elim (cases_lt place 9472) [
         | inl below ↦
-            let found : (key : EdgeKey) × IsKeyAt place key = key_at place below in (
+            let found : (key : EdgeKey) × StandsAt place key = key_at place below in (
               found.0,
-              found.1.placed,
-              found.1.there,
-              sym (at_key plan branch units table chosen all filled found.0 found.1.placed) ∙ ap (turned_edges (chosen_edges table chosen)) (sym found.1.there) ∙ is,
+              found.1.0,
+              sym found.1.1,
+              sym (at_key plan branch units table chosen all filled found.0 found.1.0) ∙ ap (turned_edges (chosen_edges table chosen)) found.1.1 ∙ is,
             )
         | inr past ↦
             let none : option_map turned (chosen_edges table chosen place) ≡ None = ap (option_map turned) (none_at table chosen place (all.others place past)) in
