@@ -5,5 +5,6 @@ mod FirstItems
 pub mod SoundItems
 mod WorstCase
 mod FirmEdges
+pub mod WholeTimes
 mod PassedUnits
 mod Pairs
