@@ -2,11 +2,14 @@ pub mod Sums
 pub mod Descent
 pub mod Passing
 pub mod Rounds
-pub mod WholeTimes
 pub mod PlainMeets
 pub mod PlainBest
 pub mod Walk
 pub mod Ranks
+pub mod Places
+pub mod Followed
+pub mod ChosenFlags
+pub mod Opening
 pub mod FirstCheapest
 pub mod PlainBounds
 pub mod PickLines

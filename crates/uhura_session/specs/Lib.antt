@@ -2,6 +2,7 @@ pub mod ProposalText
 pub mod Answers
 pub mod Session
 pub mod Plain
+pub mod Chosen
 pub mod Branches
 pub mod Schedule
 pub mod Passes

@@ -6,11 +6,13 @@ mod branches;
 mod constraints;
 mod edit;
 mod error;
+mod flags;
 pub mod law;
 mod proposal;
 mod propose;
 mod schedule;
 mod session;
+mod solver;
 
 pub use answer::Answer;
 pub use session::Session;
