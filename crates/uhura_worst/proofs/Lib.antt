@@ -5,5 +5,5 @@ mod FirstItems
 pub mod SoundItems
 mod WorstCase
 mod FirmEdges
-mod PassedUnits
+pub mod PassedUnits
 mod Pairs
