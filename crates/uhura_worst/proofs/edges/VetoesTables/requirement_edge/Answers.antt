@@ -1,7 +1,7 @@
 use Rattle.std.proofs.Common.{ap, ◌∙◌}
 use Rattle.uhura_net.specs.Place.{place_number, is_loose_key}
 use Rattle.uhura_net.proofs.Rows.{is_loose-place_number}
-use Rattle.uhura_worst.proofs.edges.requirement_edge.Goals as goal
+use Rattle.uhura_worst.proofs.edges.VetoesTables.requirement_edge.Goals as goal
 
 pub returns-in-Some-clause-fits : goal.returns-in-Some-clause-fits
 returns-in-Some-clause-fits c = λ placed.
