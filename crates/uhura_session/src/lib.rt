@@ -3,14 +3,13 @@
 
 mod answer;
 mod branches;
-mod constraints;
 mod edit;
 mod error;
 pub mod law;
 mod proposal;
 mod propose;
-mod schedule;
 mod session;
+mod solver;
 
 pub use answer::Answer;
 pub use session::Session;
