@@ -6,4 +6,6 @@ pub mod SoundItems
 mod WorstCase
 mod FirmEdges
 pub mod PassedUnits
+pub mod WholeTimes
+mod PassedUnits
 mod Pairs
