@@ -1,4 +1,3 @@
-pub mod WholeTimes
 pub mod Walk
 pub mod PickLines
 pub mod Opening

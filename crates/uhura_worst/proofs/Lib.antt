@@ -5,7 +5,6 @@ mod FirstItems
 pub mod SoundItems
 mod WorstCase
 mod FirmEdges
-pub mod PassedUnits
 pub mod WholeTimes
-mod PassedUnits
+pub mod PassedUnits
 mod Pairs
