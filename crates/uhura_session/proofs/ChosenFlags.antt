@@ -1,20 +1,19 @@
 -- The flags of a branch, and the edges that they choose.
-use Rattle.std.proofs.Common.{rules, ◌≡◌, ◌≢◌, ℕ, ◌+◌, ◌*◌, ◌<◌, ◌≤◌, Bool, true, false, List, length, set, get_or, Option, None, Some, slice_get, Contains, AllPairs, inl, inr, refl, sym, ap, subst, ◌∙◌, arith, get_or-set_same, get_or-set_other, length-set}
-use Rattle.std.specs.Prelude.{not, ◌&&◌, if◌then◌else◌, option_and_then}
+use Rattle.std.proofs.Common.{◌≡◌, ◌≢◌, ℕ, ◌+◌, ◌<◌, ◌≤◌, Bool, true, false, List, length, set, get_or, Option, None, Some, slice_get, Contains, AllPairs, inl, inr, refl, sym, ap, subst, ◌∙◌, arith, get_or-set_same, get_or-set_other, length-set}
+use Rattle.std.specs.Prelude.{if◌then◌else◌, option_and_then}
 use Rattle.std.specs.Option.{option_map_or}
 use Rattle.std.proofs.Math.ListN.{get_or-eq_default}
-use Rattle.std.proofs.lemmas.Bool.{cases_eq, cases_lt}
+use Rattle.std.proofs.lemmas.Bool.{cases_lt}
 use Rattle.std.proofs.lemmas.List.{get_or-map, length-map}
 use Rattle.std.proofs.lemmas.Option.{slice_get_within, get_or_from_slice_get, slice_get-get_or}
 use Rattle.uhura_plan.specs.declared.key.Side.{Side}
 use Rattle.uhura_plan.specs.declared.key.Side.TheVariants.{Lower, Upper}
 use Rattle.uhura_plan.specs.declared.key.Item.{Item}
 use Rattle.uhura_plan.specs.declared.key.Item.TheVariants as item
-use Rattle.uhura_plan.specs.declared.key.SideKey.{SideKey}
 use Rattle.uhura_plan.specs.declared.key.EdgeKey.{EdgeKey}
 use Rattle.uhura_plan.specs.declared.key.EdgeKey.TheVariants.{Loose, Firm, Order}
 use Rattle.uhura_plan.specs.declared.requirement.Requirement.{Requirement}
-use Rattle.uhura_plan.specs.Lists.{Lists, slots}
+use Rattle.uhura_plan.specs.Lists.{slots}
 use Rattle.uhura_plan.specs.Find.{requirement_in}
 use Rattle.uhura_choice.specs.declared.prefix.Pick.{Pick}
 use Rattle.uhura_choice.specs.Branch.{holds}
@@ -22,7 +21,7 @@ use Rattle.uhura_net.specs.declared.edge.Edge.{Edge}
 use Rattle.uhura_net.specs.Edges.{chosen_edges}
 use Rattle.uhura_net.specs.Place.{first_place, firm_row, place_number, HasPlace}
 use Rattle.uhura_veto.specs.State.{State}
-use Rattle.uhura_worst.specs.Edges.{requirement_edge, edge_of, edge_in}
+use Rattle.uhura_worst.specs.Edges.{requirement_edge, edge_of}
 use Rattle.uhura_worst.specs.Filled.{held, IsTableOf}
 use Rattle.uhura_worst.proofs.SoundItems.{Contains-found}
 use Rattle.uhura_session.specs.Chosen.{is_followed, AreFollowed, flag_of, firm_key, is_firm_of_duration, HasFixedFlags, ChoosesSlot, HasFlagsOf}

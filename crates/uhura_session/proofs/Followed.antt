@@ -1,5 +1,5 @@
 -- Times that meet the edges that are followed in a branch, and a closed walk of them.
-use Rattle.std.proofs.Common.{◌≡◌, ℕ, ◌<◌, ◌≤◌, Bool, true, false, true≢false, Option, None, Some, IsTrue, IsFalse, inl, inr, refl, sym, ap, ◌∙◌, arith, List}
+use Rattle.std.proofs.Common.{◌≡◌, ℕ, ◌≤◌, Bool, true, false, true≢false, Option, None, Some, inl, inr, refl, sym, ap, ◌∙◌, arith, List}
 use Rattle.std.specs.Prelude.{ℤ, not, ◌&&◌, if◌then◌else◌}
 use Rattle.std.proofs.lemmas.Bool.{cases_lt}
 use Rattle.std.proofs.lemmas.Int.{ints}
@@ -9,7 +9,7 @@ use Rattle.uhura_choice.specs.declared.prefix.Pick.{Pick}
 use Rattle.uhura_net.specs.declared.edge.Edge.{Edge}
 use Rattle.uhura_net.specs.declared.place.Place.{Place}
 use Rattle.uhura_net.specs.Edges.{Edges, KeepsAt, Meets, MeetsAt}
-use Rattle.uhura_net.specs.Place.{place_number, HasPlace, is_loose_key}
+use Rattle.uhura_net.specs.Place.{place_number, is_loose_key}
 use Rattle.uhura_net.specs.Walk.{IsNegativeWalk}
 use Rattle.uhura_net.proofs.Scaled.{once}
 use Rattle.uhura_net.proofs.Walks.{none_meet_in_parts}

@@ -1,5 +1,5 @@
 -- Each place is that of a key, and the edges of a sound plan have places.
-use Rattle.std.proofs.Common.{◌≡◌, ℕ, zero, suc, ◌+◌, ◌-◌, ◌*◌, ◌/◌, ◌%◌, ◌<◌, ◌≤◌, Bool, true, false, true≢false, List, [], ◌∷◌, Option, None, Some, slice_get, Contains, inl, inr, refl, sym, ap, subst, ◌∙◌, arith}
+use Rattle.std.proofs.Common.{◌≡◌, ℕ, zero, suc, ◌+◌, ◌-◌, ◌*◌, ◌/◌, ◌%◌, ◌<◌, Bool, true, false, List, [], ◌∷◌, Option, None, Some, slice_get, Contains, inl, inr, refl, sym, ap, ◌∙◌, arith}
 use Rattle.std.specs.Prelude.{find, cond, ◌==◌, option_and_then}
 use Rattle.std.proofs.lemmas.Bool.{cases_lt}
 use Rattle.std.proofs.lemmas.Bool.Decides.{Decides-eqb}
@@ -12,11 +12,11 @@ use Rattle.uhura_plan.specs.declared.requirement.Requirement.{Requirement}
 use Rattle.uhura_plan.specs.declared.uncertain.Uncertain.{Uncertain}
 use Rattle.uhura_plan.specs.Lists.{Lists}
 use Rattle.uhura_plan.specs.Find.{requirement_in}
-use Rattle.uhura_plan.specs.Sound.{IsSound, IsSoundRequirement}
+use Rattle.uhura_plan.specs.Sound.{IsSound}
 use Rattle.uhura_net.specs.declared.edge.Edge.{Edge}
 use Rattle.uhura_net.specs.Place.{first_place, place_number, IsPlacedItem, HasPlace}
 use Rattle.uhura_veto.specs.State.{State}
-use Rattle.uhura_worst.specs.Edges.{requirement_edge, duration_edge, item_of, edge_in, edge_of}
+use Rattle.uhura_worst.specs.Edges.{requirement_edge, duration_edge, edge_in, edge_of}
 use Rattle.uhura_worst.proofs.SoundItems.{Contains-found, sound_requirement, uncertain-placed}
 
 -- a key whose edge stands at a place

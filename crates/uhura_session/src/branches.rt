@@ -2,7 +2,7 @@
 ghost use Rattle.std.specs.Prelude.{◌≡◌, [], MatchBool};
 ghost use Rattle.uhura_choice.specs.Branch.{IsBranch};
 ghost use Rattle.uhura_worst.specs.Filled.{IsTableOf};
-ghost use Rattle.uhura_session.specs.Plain.{free};
+ghost use Rattle.uhura_session.specs.Free.{free};
 ghost use Rattle.uhura_session.specs.Branches.{IsBestOf, IsAny, CostsLess, IsBetter};
 
 use crate::solver::Solver;

@@ -6,5 +6,5 @@ pub mod SoundItems
 mod WorstCase
 mod FirmEdges
 pub mod WholeTimes
-mod PassedUnits
+pub mod PassedUnits
 mod Pairs

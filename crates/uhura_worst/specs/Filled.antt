@@ -22,11 +22,11 @@ IsFilledBy tables plan table = (key : EdgeKey) → HasPlace key → held table k
 abbrev pub IsTableOf : State → List (Option Edge) → Type 0
 IsTableOf state table = IsFilledBy (tables_under state.vetoes) state.plan table
 
--- the state with its first requirements and durations alone, so many of each
-abbrev pub first_items : State → ℕ → ℕ → State
-first_items state requirements durations = record {
-  plan = record state.plan { requirements = take requirements state.plan.requirements; uncertains = take durations state.plan.uncertains };
-  vetoes = state.vetoes;
+-- the plan with its first requirements and durations alone, so many of each
+abbrev pub first_items : Lists → ℕ → ℕ → Lists
+first_items plan requirements durations = record plan {
+  requirements = take requirements plan.requirements;
+  uncertains = take durations plan.uncertains;
 }
 
 -- the two keys name one edge

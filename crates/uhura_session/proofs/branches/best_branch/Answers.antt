@@ -1,6 +1,6 @@
-use Rattle.std.proofs.Common.{List, sym, subst}
+use Rattle.std.proofs.Common.{sym, subst}
 use Rattle.uhura_worst.specs.Filled.{IsTableOf}
-use Rattle.uhura_session.specs.Plain.{free}
+use Rattle.uhura_session.specs.Free.{free}
 use Rattle.uhura_session.specs.Branches.{IsBestOf}
 use Rattle.uhura_session.proofs.FirstCheapest.{IsUpTo, best-more, best-next, best-last}
 use Rattle.uhura_session.proofs.Ranks.{rank-falls}

@@ -1,6 +1,6 @@
 use Rattle.uhura_choice.specs.Branch.{IsBranch}
 use Rattle.uhura_worst.specs.Filled.{IsTableOf}
-use Rattle.uhura_session.specs.Plain.{free}
+use Rattle.uhura_session.specs.Free.{free}
 use Rattle.uhura_session.specs.Branches.{IsBestOf}
 use Rattle.uhura_session.proofs.FirstCheapest.{IsBefore}
 use Rattle.uhura_session.proofs.Ranks.{rank}
