@@ -5,5 +5,6 @@ pub mod FirstItems
 pub mod SoundItems
 pub mod WorstCase
 mod FirmEdges
-mod PassedUnits
+pub mod WholeTimes
+pub mod PassedUnits
 mod Pairs
