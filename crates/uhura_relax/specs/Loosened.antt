@@ -38,3 +38,14 @@ loosened_edge_of plan branch units key = edge_among (loosened_tables branch unit
 abbrev pub AreLoosenedEdges : Lists → List Pick → (SideKey → ℕ) → Edges → Type 0
 AreLoosenedEdges plan branch units edges = (place : ℕ) (edge : Edge) → edges place ≡ Some edge →
     (key : EdgeKey) × HasPlace key × (place ≡ place_number key) × (loosened_edge_of plan branch units key ≡ Some edge)
+
+-- an edge turned around: it leads from the node to which it led
+abbrev pub turned : Edge → Edge
+turned edge = record { from = edge.to; to = edge.from; bound = edge.bound; capacity = edge.capacity }
+
+-- the loosened tables with each edge turned around
+abbrev pub turned_tables : List Pick → (SideKey → ℕ) → Tables
+turned_tables branch units = record {
+  of_requirement = λ r key. option_map turned (loosened_requirement branch units r key);
+  of_duration = λ d u key. option_map turned (narrowed_duration units d u key);
+}

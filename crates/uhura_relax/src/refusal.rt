@@ -14,3 +14,14 @@ pub enum RelaxRefusal {
     #[error("{0}")]
     Memory(AllocError),
 }
+
+impl From<AllocError> for RelaxRefusal {
+    ghost use Rattle.std.specs.Prelude.{◌≡◌};
+    ghost use Rattle.uhura_relax.specs.declared.refusal.RelaxRefusal.TheVariants.{Memory};
+
+    ghost from_gives = { λ error refusal. refusal ≡ Memory error };
+
+    fn from(error: AllocError) -> RelaxRefusal {
+        RelaxRefusal::Memory(error)
+    }
+}

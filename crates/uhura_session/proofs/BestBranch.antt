@@ -1,6 +1,6 @@
 -- In an unpriced plan without vetoes each open branch has a schedule that loosens and narrows nothing. So the first
 -- cheapest open branch with its earliest schedule is the best proposal, and where no branch is open nothing is allowed.
-use Rattle.std.proofs.Common.{rules, ◌≡◌, ℕ, ◌+◌, ◌*◌, ◌<◌, ◌≤◌, List, [], refl, None, arith, lit≤}
+use Rattle.std.proofs.Common.{◌≡◌, ℕ, ◌+◌, ◌*◌, ◌<◌, ◌≤◌, List, [], refl, None, arith, lit≤}
 use Rattle.std.proofs.Math.Nat.{mul-le-mul_left}
 use Rattle.std.specs.Prelude.{ℤ}
 use Rattle.uhura_plan.specs.Lists.{Lists}

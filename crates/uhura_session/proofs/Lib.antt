@@ -1,4 +1,9 @@
 pub mod Walk
+pub mod Ranks
+pub mod Places
+pub mod Followed
+pub mod ChosenFlags
+pub mod FirstCheapest
 pub mod PickLines
 pub mod Opening
 pub mod Unpriced

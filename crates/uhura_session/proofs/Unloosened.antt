@@ -1,6 +1,6 @@
 -- Proposals that loosen and narrow nothing: what they leave, when they meet the requirements, and what they cost.
-use Rattle.std.proofs.Common.{rules, ◌≡◌, ℕ, ◌+◌, ◌*◌, List, [], ◌∷◌, refl, arith, Option, None, Some}
-use Rattle.std.specs.Prelude.{ℤ, pos, Contains, slice_get, sum_by}
+use Rattle.std.proofs.Common.{◌≡◌, ℕ, ◌+◌, List, [], ◌∷◌, refl, arith, Option, None, Some}
+use Rattle.std.specs.Prelude.{ℤ, Contains, slice_get, sum_by}
 use Rattle.std.proofs.lemmas.Int.{ints}
 use Rattle.std.proofs.lemmas.List.Sums.{sum_by-cons}
 use Rattle.uhura_plan.specs.Lists.{Lists}

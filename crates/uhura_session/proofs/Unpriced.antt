@@ -1,7 +1,7 @@
 -- A plan that passes the test has no prices, and without a price a side has no room.
 use Rattle.std.proofs.Common.{◌≡◌, ℕ, Bool, true, List, Option, None, Some, is_none, refl, arith}
 use Rattle.std.specs.Prelude.{ℤ, Contains, slice_get}
-use Rattle.std.specs.List.{All, list_all}
+use Rattle.std.specs.List.{list_all}
 use Rattle.std.proofs.lemmas.Bool.{and_parts}
 use Rattle.std.proofs.lemmas.List.Elements.{All-contains}
 use Rattle.std.proofs.lemmas.List.Sums.{AllPass-from_list_all}

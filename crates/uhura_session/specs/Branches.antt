@@ -1,10 +1,15 @@
 -- Which branch of a plan is picked: the first cheapest of those that are open.
-use Rattle.std.specs.Prelude.{ℕ, ◌<◌, ◌≤◌, ℤ, IsFalse, List, Option, None, Some}
+use Rattle.std.specs.Prelude.{◌≡◌, ◌⊎◌, ℕ, ◌<◌, ◌≤◌, ℤ, List, Option, None, Some, IsFalse}
+use Rattle.uhura_plan.specs.Lists.{Lists}
 use Rattle.uhura_choice.specs.declared.prefix.Pick.{Pick}
 use Rattle.uhura_choice.specs.Branch.{IsBranch, IsEarlier, picked_cost}
 use Rattle.uhura_veto.specs.State.{State}
 use Rattle.uhura_veto.specs.Denial.{is_denied}
 use Rattle.uhura_worst.specs.WorstCase.{KeepsFirmEdges}
+
+-- some times of the nodes keep each edge of the branch that isn't loose
+abbrev pub HasTimes : State → List Pick → Type 0
+HasTimes state branch = (times : ℕ → ℤ) × KeepsFirmEdges state 1 branch times
 
 -- a branch is open where it isn't denied and some times of the nodes keep each of its edges that isn't loose
 pub record IsOpen (state : State) (branch : List Pick) : Type 0 where
@@ -28,3 +33,13 @@ IsBestOf Kind state (Some branch) = IsFirstCheapest Kind state branch
 -- any list of picks
 abbrev pub IsAny : List Pick → Type 0
 IsAny picks = Unit {0}
+
+-- the branch costs less than the best so far, if there is one
+abbrev pub CostsLess : Lists → Option (List Pick) → List Pick → Type 0
+CostsLess plan None branch = Unit {0}
+CostsLess plan (Some best) branch = picked_cost plan.choices branch < picked_cost plan.choices best
+
+-- the branch is chosen in place of the best so far exactly where it costs less and is open
+abbrev pub IsBetter : State → Option (List Pick) → List Pick → Option (List Pick) → Type 0
+IsBetter state best branch chosen =
+    (CostsLess state.plan best branch × IsOpen state branch × (chosen ≡ Some branch)) ⊎ ((CostsLess state.plan best branch → IsOpen state branch → ⊥) × (chosen ≡ best))

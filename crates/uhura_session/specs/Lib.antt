@@ -1,6 +1,7 @@
 pub mod ProposalText
 pub mod Answers
 pub mod Session
+pub mod Chosen
 pub mod Free
 pub mod Unpriced
 pub mod Branches

@@ -5,6 +5,7 @@ mod answer;
 mod branches;
 mod edit;
 mod error;
+mod flags;
 pub mod law;
 mod proposal;
 mod propose;

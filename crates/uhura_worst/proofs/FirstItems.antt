@@ -19,7 +19,7 @@ use Rattle.uhura_worst.specs.Filled.{IsFilledBy, first_items, PutsItem}
 use Rattle.uhura_worst.proofs.SoundItems.{Contains-found}
 
 -- what is found passes the test
-passes : {X : Type 0} (test : X → Bool) (xs : List X) (x : X) → find test xs ≡ Some x → test x ≡ true
+pub passes : {X : Type 0} (test : X → Bool) (xs : List X) (x : X) → find test xs ≡ Some x → test x ≡ true
 passes test [] x found = absurd (let never : ⊥ = cc in never)
 passes test (y ∷ ys) x found = by (test y) refl (passes test ys x) found
   where

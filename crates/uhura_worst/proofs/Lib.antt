@@ -1,9 +1,9 @@
 mod Single
 mod CappedDrive
 mod Puts
-mod FirstItems
+pub mod FirstItems
 pub mod SoundItems
-mod WorstCase
+pub mod WorstCase
 mod FirmEdges
 pub mod WholeTimes
 pub mod PassedUnits

@@ -1,4 +1,4 @@
-use Rattle.std.proofs.Common.{◌≡◌, ap, ◌∙◌, inl, inr, ◌++◌}
+use Rattle.std.proofs.Common.{ap, ◌∙◌, inl, inr, ◌++◌}
 use Rattle.std.specs.Prelude.{codes, []}
 use Rattle.uhura_relax.specs.Schedule.{proposal_with, scheduled}
 use Rattle.uhura_session.proofs.BestBranch.{first_cheapest_is_best, nothing_is_allowed}
