@@ -1,6 +1,5 @@
 mod Turning
 mod TurnedWalk
-mod Keys
 mod Placed
 mod LoosenedCase
 mod Opposites

@@ -19,7 +19,7 @@ use Rattle.uhura_worst.specs.Edges.{edge_among, item_of}
 use Rattle.uhura_worst.specs.Filled.{IsFilledBy}
 use Rattle.uhura_relax.specs.Loosened.{loosened_tables, loosened_edge_of, turned, turned_tables, AreLoosenedEdges}
 use Rattle.uhura_relax.proofs.Turning.{turned_edges, turned-twice}
-use Rattle.uhura_relax.proofs.Keys.{IsKeyAt, key_at}
+use Rattle.uhura_net.proofs.Keys.{IsKeyAt, key_at}
 
 -- each place below 9,472 is chosen, and no other
 pub record AreAllChosen (chosen : List Bool) : Type 0 where

@@ -11,6 +11,7 @@ use Rattle.uhura_net.specs.declared.place.Place.{Place}
 use Rattle.uhura_net.specs.Edges.{Edges, KeepsAt, Meets, MeetsAt}
 use Rattle.uhura_net.specs.Place.{place_number, is_loose_key}
 use Rattle.uhura_net.specs.Walk.{IsNegativeWalk}
+use Rattle.uhura_net.proofs.Keys.{IsKeyAt, key_at}
 use Rattle.uhura_net.proofs.Scaled.{once}
 use Rattle.uhura_net.proofs.Walks.{none_meet_in_parts}
 use Rattle.uhura_veto.specs.State.{State}
@@ -18,7 +19,7 @@ use Rattle.uhura_worst.specs.Edges.{edge_of, is_active_edge}
 use Rattle.uhura_worst.specs.WorstCase.{KeepsFirmEdges}
 use Rattle.uhura_session.specs.Chosen.{is_followed, AreFollowed}
 use Rattle.uhura_session.specs.Branches.{HasTimes}
-use Rattle.uhura_session.proofs.Places.{StandsAt, key_at, edge-placed}
+use Rattle.uhura_session.proofs.Places.{edge-placed}
 
 -- what is firm and active is followed
 is_followed-where : (loose active : Bool) → loose ≡ false → active ≡ true → (not loose && active) ≡ true
@@ -42,17 +43,17 @@ module _ (state : State) (branch : List Pick) (edges : Edges) (followed : AreFol
       omega (arith, ints, meets (place_number key) edge there, once edge.bound)
 
   -- times that keep the branch's keep the edge at the place of a key
-  kept-at : (times : ℕ → ℤ) (place : ℕ) (edge : Edge) (key : EdgeKey) → KeepsFirmEdges state 1 branch times → edges place ≡ Some edge → StandsAt place key → KeepsAt 1 times edge
+  kept-at : (times : ℕ → ℤ) (place : ℕ) (edge : Edge) (key : EdgeKey) → KeepsFirmEdges state 1 branch times → edges place ≡ Some edge → IsKeyAt place key → KeepsAt 1 times edge
   kept-at times place edge key keeps is stands =
       let parts : (edge_of state key ≡ Some edge) × (is_loose_key key ≡ false) × (is_active_edge state.plan branch key ≡ true) =
-      is_followed-parts (is_loose_key key) (is_active_edge state.plan branch key) (edge_of state key) edge (sym (followed key stands.0) ∙ ap edges stands.1 ∙ is) in
+      is_followed-parts (is_loose_key key) (is_active_edge state.plan branch key) (edge_of state key) edge (sym (followed key stands.placed) ∙ ap edges (sym stands.there) ∙ is) in
       keeps key edge parts.0 parts.1 parts.2
 
   -- and so meet the edges
   keep-meet : (times : ℕ → ℤ) → ((place : ℕ) → 9472 ≤ place → edges place ≡ None) → KeepsFirmEdges state 1 branch times → MeetsAt 1 edges times
   keep-meet times past keeps place edge is =
       elim (cases_lt place 9472) [
-        | inl below ↦ let found = key_at place below in kept-at times place edge found.0 keeps is found.1
+        | inl below ↦ let found : (key : EdgeKey) × IsKeyAt place key = key_at place below in kept-at times place edge found.0 keeps is found.1
         | inr behind ↦ absurd (let nothing : edges place ≡ None = past place behind in let never : ⊥ = cc in never)
       ]
 

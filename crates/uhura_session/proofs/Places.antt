@@ -1,9 +1,7 @@
--- Each place is that of a key, and the edges of a sound plan have places.
-use Rattle.std.proofs.Common.{◌≡◌, ℕ, zero, suc, ◌+◌, ◌-◌, ◌*◌, ◌/◌, ◌%◌, ◌<◌, Bool, true, false, List, [], ◌∷◌, Option, None, Some, slice_get, Contains, inl, inr, refl, sym, ap, ◌∙◌, arith}
-use Rattle.std.specs.Prelude.{find, cond, ◌==◌, option_and_then}
-use Rattle.std.proofs.lemmas.Bool.{cases_lt}
+-- The edges of a sound plan have places.
+use Rattle.std.proofs.Common.{◌≡◌, ℕ, ◌<◌, Option, None, Some, slice_get, Contains, refl, arith}
+use Rattle.std.specs.Prelude.{◌==◌, option_and_then}
 use Rattle.std.proofs.lemmas.Bool.Decides.{Decides-eqb}
-use Rattle.uhura_plan.specs.declared.key.Side.TheVariants.{Lower, Upper}
 use Rattle.uhura_plan.specs.declared.key.Item.{Item}
 use Rattle.uhura_plan.specs.declared.key.Item.TheVariants as item
 use Rattle.uhura_plan.specs.declared.key.EdgeKey.{EdgeKey}
@@ -14,46 +12,11 @@ use Rattle.uhura_plan.specs.Lists.{Lists}
 use Rattle.uhura_plan.specs.Find.{requirement_in}
 use Rattle.uhura_plan.specs.Sound.{IsSound}
 use Rattle.uhura_net.specs.declared.edge.Edge.{Edge}
-use Rattle.uhura_net.specs.Place.{first_place, place_number, IsPlacedItem, HasPlace}
+use Rattle.uhura_net.specs.Place.{IsPlacedItem, HasPlace}
 use Rattle.uhura_veto.specs.State.{State}
 use Rattle.uhura_worst.specs.Edges.{requirement_edge, duration_edge, edge_in, edge_of}
+use Rattle.uhura_worst.proofs.FirstItems.{passes}
 use Rattle.uhura_worst.proofs.SoundItems.{Contains-found, sound_requirement, uncertain-placed}
-
--- a key whose edge stands at a place
-abbrev pub StandsAt : ℕ → EdgeKey → Type 0
-StandsAt place key = HasPlace key × (place_number key ≡ place)
-
--- the edges of an item's sides stand in the first four rows of its table
-in_row : (of : Item) (row place : ℕ) → IsPlacedItem of → row < 4 → first_place of + row ≡ place → (key : EdgeKey) × StandsAt place key
-in_row of zero place placed small is = (Loose (record { item = of; side = Lower }), (placed, is))
-in_row of (suc zero) place placed small is = (Firm (record { item = of; side = Lower }), (placed, is))
-in_row of (suc (suc zero)) place placed small is = (Loose (record { item = of; side = Upper }), (placed, is))
-in_row of (suc (suc (suc zero))) place placed small is = (Firm (record { item = of; side = Upper }), (placed, is))
-in_row of (suc (suc (suc (suc row)))) place placed small is = absurd (omega arith)
-
--- each place is that of a key
-pub key_at : (place : ℕ) → place < 9472 → (key : EdgeKey) × StandsAt place key
-key_at place below =
-    elim (cases_lt place 8192) [
-      | inl slot ↦ in_row (item.Requirement (place / 4)) (place % 4) place (omega arith) (omega arith) (omega arith)
-      | inr duration ↦ of_duration ((place - 8192) / 5) ((place - 8192) % 5) (omega arith) (omega arith) (omega arith)
-    ]
-  where
-    of_duration : (d row : ℕ) → d < 256 → row < 5 → 8192 + 5 * d + row ≡ place → (key : EdgeKey) × StandsAt place key
-    of_duration d row placed small is =
-        elim (cases_lt row 4) [
-          | inl side ↦ in_row (item.Uncertain d) row place placed side is
-          | inr last ↦ (Order d, (placed, omega arith))
-        ]
-
--- what is found passes the test
-passes : {X : Type 0} (test : X → Bool) (xs : List X) (x : X) → find test xs ≡ Some x → test x ≡ true
-passes test [] x found = absurd (let never : ⊥ = cc in never)
-passes test (y ∷ ys) x found = by (test y) refl (passes test ys x) found
-  where
-    by : (b : Bool) → test y ≡ b → (find test ys ≡ Some x → test x ≡ true) → cond b (Some y) (find test ys) ≡ Some x → test x ≡ true
-    by true is rest first = let same : y ≡ x = cc in ap test (sym same) ∙ is
-    by false is rest later = rest later
 
 -- a requirement that is found in a slot has the slot
 pub slot-found : (plan : Lists) (slot : ℕ) (r : Requirement) → requirement_in plan slot ≡ Some r → r.slot ≡ slot
