@@ -4,6 +4,7 @@ mod Cycles
 pub mod Duality
 mod Empty
 pub mod Firm
+pub mod Keys
 mod Loops
 mod Moves
 pub mod Outweighing

@@ -1,5 +1,5 @@
 -- Where the edges of requirements and durations stand: the places of the tables of items, one after another.
-use Rattle.std.specs.Prelude.{ℕ, ◌+◌, ◌-◌, ◌*◌, ◌%◌, ◌<◌, nat_lt, ◌==◌, ◌||◌, Bool, true, false, if◌then◌else◌}
+use Rattle.std.specs.Prelude.{◌≡◌, ℕ, ◌+◌, ◌-◌, ◌*◌, ◌%◌, ◌<◌, nat_lt, ◌==◌, ◌||◌, Bool, true, false, if◌then◌else◌}
 use Rattle.uhura_plan.specs.declared.key.Side.{Side}
 use Rattle.uhura_plan.specs.declared.key.Side.TheVariants.{Lower, Upper}
 use Rattle.uhura_plan.specs.declared.key.Item.{Item}
@@ -37,6 +37,10 @@ abbrev pub HasPlace : EdgeKey → Type 0
 HasPlace (Loose key) = IsPlacedItem key.item
 HasPlace (Firm key) = IsPlacedItem key.item
 HasPlace (Order d) = d < 256
+
+-- the edge of the key stands at the place
+abbrev pub StandsAt : ℕ → EdgeKey → Type 0
+StandsAt place key = HasPlace key × (place_number key ≡ place)
 
 -- the row of a place in the table of its item
 abbrev pub row_of : ℕ → ℕ

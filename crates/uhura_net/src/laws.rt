@@ -4,16 +4,18 @@ ghost use Rattle.std.specs.List.{All};
 ghost use Rattle.uhura_plan.specs.declared.key.EdgeKey.{EdgeKey};
 ghost use Rattle.uhura_net.specs.declared.edge.Edge.{Edge};
 ghost use Rattle.uhura_net.specs.declared.place.Place.{Place};
-ghost use Rattle.uhura_net.specs.Place.{place_number, HasPlace, is_loose, is_loose_key};
+ghost use Rattle.uhura_net.specs.Place.{place_number, HasPlace, StandsAt, is_loose, is_loose_key};
 ghost use Rattle.uhura_net.specs.Edges.{Edges, edge_at, KeepsAt, MeetsAt, Meets};
 ghost use Rattle.uhura_net.specs.Walk.{IsClosedWalk, bounds_of, IsNegativeWalk};
 ghost use Rattle.uhura_net.specs.Sums.{sum_below, int_sum_below};
 ghost use Rattle.uhura_net.specs.Circulation.{Units, IsBalanced, IsCirculation, weighed, value_of, KeepsWithin};
 ghost use Rattle.uhura_net.specs.Optimal.{IsOptimal, firm_edges, loose_excess, ArePlaced, FirmOutweighLoose};
 
-/// Different edges stand at different places, so `key_of` gives back the edge that `place_of` placed.
+/// Different edges stand at different places, so `key_of` gives back the edge that `place_of` placed. And each place is
+/// that of an edge.
 pub fn places_and_keys_are_one_to_one()
-    ensures { (a b : EdgeKey) → HasPlace a → HasPlace b → place_number a ≡ place_number b → a ≡ b }
+    ensures apart { (a b : EdgeKey) → HasPlace a → HasPlace b → place_number a ≡ place_number b → a ≡ b }
+    ensures onto { (place : ℕ) → place < 9472 → (key : EdgeKey) × StandsAt place key }
 {}
 
 /// The places that are loose are those of the loose edges.

@@ -1,5 +1,5 @@
 -- A command that edits is answered by its edit.
-use Rattle.std.proofs.Common.{◌≡◌, ℕ, Bool, List, refl}
+use Rattle.std.proofs.Common.{ℕ, Bool, List}
 use Rattle.uhura_veto.specs.State.{State}
 use Rattle.uhura_command.specs.declared.command.Command.{Command}
 use Rattle.uhura_command.specs.declared.command.Command.TheVariants as command

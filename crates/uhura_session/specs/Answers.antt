@@ -1,8 +1,9 @@
 -- What is answered to a line, and the state after it.
-use Rattle.std.specs.Prelude.{◌≡◌, ℕ, ◌⊎◌, ◌&&◌, Bool, true, false, List, [], ◌∷◌, ◌++◌, length, nat_eq, None, Some, Option, is_none, Result, Ok, Err, codes}
+use Rattle.std.specs.Prelude.{◌≡◌, ℕ, ◌⊎◌, ◌&&◌, Bool, true, false, List, [], ◌∷◌, ◌++◌, None, Some, Option, is_none, Result, Ok, Err, codes}
 use Rattle.std.specs.List.{list_all}
 use Rattle.uhura_plan.specs.Lists.{Lists}
 use Rattle.uhura_plan.specs.declared.requirement.Requirement.{Requirement}
+use Rattle.uhura_plan.specs.declared.uncertain.Uncertain.{Uncertain}
 use Rattle.uhura_veto.specs.State.{State}
 use Rattle.uhura_worst.specs.Proposal.{Proposal}
 use Rattle.uhura_worst.specs.Best.{IsBest, AllowsNothing}
@@ -71,9 +72,13 @@ pub record Grants (Says Next : Type 0) (refused : Bool) : Type 0 where
 abbrev pub is_unpriced : Requirement → Bool
 is_unpriced r = is_none r.lower.price && is_none r.upper.price
 
--- a plan that can be asked so far: it has no duration, and no requirement with a price. Choices and guards count
-abbrev pub is_plain : Lists → Bool
-is_plain plan = nat_eq (length plan.uncertains) 0 && list_all is_unpriced plan.requirements
+-- a duration without a rate
+abbrev pub is_unrated : Uncertain → Bool
+is_unrated u = is_none u.lower_rate && is_none u.upper_rate
+
+-- a plan that can be asked so far: no requirement has a price, and no duration a rate. Durations, choices and guards count
+abbrev pub is_unpriced_plan : Lists → Bool
+is_unpriced_plan plan = list_all is_unpriced plan.requirements && list_all is_unrated plan.uncertains
 
 -- the answer to a question: a best proposal, or `none` exactly where nothing is allowed
 abbrev pub IsProposed : State → List ℕ → Type 0
@@ -97,7 +102,7 @@ shown_text plan = script plan ++ codes "# end\n"
 -- what is answered to a command
 unfoldable pub AnswersCommand : Command → State → List ℕ → Bool → State → Type 0
 AnswersCommand command.Show state text refused next = Grants (text ≡ shown_text state.plan) (next ≡ state) refused
-AnswersCommand command.Propose state text refused next = AnswersQuestion (is_plain state.plan) state text refused next
+AnswersCommand command.Propose state text refused next = AnswersQuestion (is_unpriced_plan state.plan) state text refused next
 AnswersCommand command.Prove state text refused next = Refuses (text ≡ unbuilt_text) state refused next
 AnswersCommand c state text refused next = AnswersEdit (refusal_of state c) (Applies state c next) state text refused next
 

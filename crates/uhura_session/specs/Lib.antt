@@ -1,10 +1,10 @@
 pub mod ProposalText
 pub mod Answers
 pub mod Session
-pub mod Plain
+pub mod Chosen
+pub mod Free
+pub mod Unpriced
 pub mod Branches
-pub mod Schedule
-pub mod Passes
 pub mod Transcript
 pub mod Line
 pub mod ReadsBack

@@ -1,56 +1,45 @@
-//! The first cheapest branch of a plan whose requirements have a schedule.
-ghost use Rattle.std.specs.Prelude.{◌≡◌, length, IfOk, MatchBool};
+//! The first cheapest open branch.
+ghost use Rattle.std.specs.Prelude.{◌≡◌, [], MatchBool};
 ghost use Rattle.uhura_choice.specs.Branch.{IsBranch};
-ghost use Rattle.uhura_session.specs.Schedule.{IsLeastSolution};
-ghost use Rattle.uhura_session.specs.Plain.{IsPlain, branch_constraints};
-ghost use Rattle.uhura_session.specs.Branches.{IsOpen, IsBestOf, IsAny, CostsLess, IsBetter, IsSolved};
+ghost use Rattle.uhura_worst.specs.Filled.{IsTableOf};
+ghost use Rattle.uhura_session.specs.Free.{free};
+ghost use Rattle.uhura_session.specs.Branches.{IsBestOf, IsAny, CostsLess, IsBetter};
 
-use crate::constraints::collect;
-use crate::schedule::{Constraint, earliest};
-use std::alloc::AllocError;
+use crate::solver::Solver;
 use uhura_choice::{Branch, first_branch, next_branch, picked_cost};
 use uhura_plan::Plan;
+use uhura_veto::Vetoes;
 
-/// Looks at the branches in order, and gives the first cheapest of those that have a schedule. Only a branch that costs
-/// less than the best so far is solved. The two lists are room to work in.
-pub fn best_branch(
-    plan: &Plan,
-    constraints: &mut Vec<Constraint>,
-    times: &mut [i64],
-) -> Result<Option<Branch>, AllocError>
-    requires plain { IsPlain plan.now }
-    requires count { length times.old ≡ length plan.now.events }
-    ensures { IfOk result (λ best. IsBestOf IsAny plan.now best) }
+/// Looks at the branches in order, and gives the first cheapest of those that are open. Only a branch that costs less
+/// than the best so far is settled. It takes no memory.
+pub fn best_branch(plan: &Plan, vetoes: &Vetoes, solver: &mut Solver) -> Option<Branch>
+    requires { vetoes.now ≡ [] }
+    ensures { IsBestOf IsAny (free plan.now) result }
 {
+    solver.fill(plan, vetoes);
     let mut best = None;
     let mut branch = first_branch(plan);
     'walk: loop {
         let next = next_branch(plan, &branch);
-        best = better(plan, best, branch, constraints, times)?;
+        best = better(plan, best, branch, solver);
         let Some(later) = next else {
-            return Ok(best);
+            return best;
         };
         branch = later;
     }
 }
 
 /// The branch where it is better than the best so far, and otherwise that one.
-fn better(
-    plan: &Plan,
-    best: Option<Branch>,
-    branch: Branch,
-    constraints: &mut Vec<Constraint>,
-    times: &mut [i64],
-) -> Result<Option<Branch>, AllocError>
-    requires plain { IsPlain plan.now }
-    requires count { length times.old ≡ length plan.now.events }
+fn better(plan: &Plan, best: Option<Branch>, branch: Branch, solver: &mut Solver) -> Option<Branch>
+    requires edges { IsTableOf (free plan.now) solver.old }
     requires branch { IsBranch plan.now.choices branch }
-    ensures { IfOk result (λ chosen. IsBetter plan.now best branch chosen) }
+    ensures chosen { IsBetter (free plan.now) best branch result }
+    ensures edges { solver.new ≡ solver.old }
 {
-    if is_cheaper(plan, &best, &branch) && solve_branch(plan, &branch, constraints, times)? {
-        Ok(Some(branch))
+    if is_cheaper(plan, &best, &branch) && solver.has_times(plan, &branch) {
+        Some(branch)
     } else {
-        Ok(best)
+        best
     }
 }
 
@@ -62,36 +51,4 @@ fn is_cheaper(plan: &Plan, best: &Option<Branch>, branch: &Branch) -> bool
         Some(best) => picked_cost(plan, branch) < picked_cost(plan, best),
         None => true,
     }
-}
-
-/// Fills the times with the earliest schedule of a branch that has one.
-pub fn schedule_branch(
-    plan: &Plan,
-    branch: &Branch,
-    constraints: &mut Vec<Constraint>,
-    times: &mut [i64],
-) -> Result<(), AllocError>
-    requires plain { IsPlain plan.now }
-    requires count { length times.old ≡ length plan.now.events }
-    requires open_branch { IsOpen plan.now branch.now }
-    ensures { IfOk result (λ _. IsLeastSolution (branch_constraints plan.now.requirements branch.now) times.new) }
-{
-    let _solved = solve_branch(plan, branch, constraints, times)?;
-    Ok(())
-}
-
-/// Fills the times with the earliest schedule of the requirements that are active in the branch, and says whether there
-/// is one.
-fn solve_branch(
-    plan: &Plan,
-    branch: &Branch,
-    constraints: &mut Vec<Constraint>,
-    times: &mut [i64],
-) -> Result<bool, AllocError>
-    requires plain { IsPlain plan.now }
-    requires count { length times.old ≡ length plan.now.events }
-    ensures { IfOk result (λ solved. IsSolved plan.now branch.now solved times.new) }
-{
-    collect(constraints, plan, branch)?;
-    Ok(earliest(constraints, times))
 }

@@ -3,14 +3,14 @@
 
 mod answer;
 mod branches;
-mod constraints;
 mod edit;
 mod error;
+mod flags;
 pub mod law;
 mod proposal;
 mod propose;
-mod schedule;
 mod session;
+mod solver;
 
 pub use answer::Answer;
 pub use session::Session;

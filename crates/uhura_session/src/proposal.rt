@@ -2,18 +2,18 @@
 ghost use Rattle.std.specs.Prelude.{◌≡◌, ◌≤◌, ◌++◌, [], ◌∷◌, length, pos, IfOk, codes};
 ghost use Rattle.uhura_text.specs.Number.{spelling};
 ghost use Rattle.uhura_command.specs.Written.{line_of};
+ghost use Rattle.uhura_relax.specs.Schedule.{proposal_with, scheduled};
 ghost use Rattle.uhura_session.specs.ProposalText.{alternative_name, pick_lines, time_lines, proposal_text};
-ghost use Rattle.uhura_session.specs.Schedule.{time_at};
-ghost use Rattle.uhura_session.specs.Plain.{IsPlain, unloosened};
 
 use std::alloc::AllocError;
 use uhura_choice::{Branch, Pick, picked_cost};
 use uhura_plan::{Choice, Name, Plan};
+use uhura_relax::Schedule;
 use uhura_text::put_number;
 
 /// Appends the line of an event's time.
-fn put_time(text: &mut Vec<u8>, name: Name, time: i64) -> Result<(), AllocError>
-    ensures { IfOk result (λ _. text.new.items ≡ text.old.items ++ line_of (codes "at" ∷ name ∷ spelling time ∷ [])) }
+fn put_time(text: &mut Vec<u8>, name: Name, time: u64) -> Result<(), AllocError>
+    ensures { IfOk result (λ _. text.new.items ≡ text.old.items ++ line_of (codes "at" ∷ name ∷ spelling (pos time) ∷ [])) }
 {
     text.extend_from_slice(b"at ")?;
     text.extend_from_slice(name.bytes())?;
@@ -24,13 +24,12 @@ fn put_time(text: &mut Vec<u8>, name: Name, time: i64) -> Result<(), AllocError>
 }
 
 /// Appends the lines of the times of all events.
-fn put_times(text: &mut Vec<u8>, plan: &Plan, times: &[i64]) -> Result<(), AllocError>
-    requires { length times.now ≡ length plan.now.events }
-    ensures { IfOk result (λ _. text.new.items ≡ text.old.items ++ time_lines (time_at times.now) 0 plan.now.events) }
+fn put_times(text: &mut Vec<u8>, plan: &Plan, schedule: &Schedule) -> Result<(), AllocError>
+    ensures { IfOk result (λ _. text.new.items ≡ text.old.items ++ time_lines (scheduled schedule.now) 0 plan.now.events) }
 {
     for event in 0..plan.events() {
         if let Some(name) = plan.event(event) {
-            put_time(text, name, times[event as usize])?;
+            put_time(text, name, schedule.time(event).unwrap_or(0))?;
         }
     }
     Ok(())
@@ -83,21 +82,19 @@ fn put_cost(text: &mut Vec<u8>, cost: u64) -> Result<(), AllocError>
     Ok(())
 }
 
-/// Writes the proposal with this branch and these times that loosens nothing.
+/// Writes the proposal with this branch and this schedule that loosens and narrows nothing.
 pub fn put_proposal(
     text: &mut Vec<u8>,
     plan: &Plan,
     branch: &Branch,
-    times: &[i64],
+    schedule: &Schedule,
 ) -> Result<(), AllocError>
-    requires plain { IsPlain plan.now }
-    requires count { length times.now ≡ length plan.now.events }
     requires empty { text.old.items ≡ [] }
-    ensures { IfOk result (λ _. text.new.items ≡ proposal_text plan.now (unloosened branch.now (time_at times.now))) }
+    ensures { IfOk result (λ _. text.new.items ≡ proposal_text plan.now (proposal_with branch.now [] (scheduled schedule.now))) }
 {
     put_cost(text, picked_cost(plan, branch))?;
     put_picks(text, plan, branch.entries())?;
-    put_times(text, plan, times)?;
+    put_times(text, plan, schedule)?;
     text.extend_from_slice(b"end\n")?;
     Ok(())
 }

@@ -1,40 +1,63 @@
 //! The answer to `propose`: the first cheapest branch that has a schedule, with its earliest one, or `none`.
-ghost use Rattle.std.specs.Prelude.{◌≡◌, [], true, length, IfOk};
+ghost use Rattle.std.specs.Prelude.{◌≡◌, [], true, IfOk};
 ghost use Rattle.std.specs.List.{list_all};
-ghost use Rattle.uhura_session.specs.Answers.{AnswersQuestion, IsProposed, is_plain, is_unpriced};
-ghost use Rattle.uhura_session.specs.Plain.{IsPlain, free};
+ghost use Rattle.uhura_plan.specs.Sound.{IsSound};
+ghost use Rattle.uhura_relax.specs.Schedule.{IsEarliestSchedule};
+ghost use Rattle.uhura_session.specs.Answers.{AnswersQuestion, IsProposed, is_unpriced, is_unrated, is_unpriced_plan};
+ghost use Rattle.uhura_session.specs.Branches.{IsOpen};
+ghost use Rattle.uhura_session.specs.Free.{free};
+ghost use Rattle.uhura_session.specs.Unpriced.{IsUnpriced};
 
-use crate::branches::{best_branch, schedule_branch};
+use crate::branches::best_branch;
 use crate::error::put_unbuilt;
 use crate::proposal::put_proposal;
-use crate::schedule::Constraint;
-use std::alloc::AllocError;
-use uhura_plan::{Plan, Requirement};
+use crate::solver::Solver;
+use std::alloc::{AllocError, Global};
+use uhura_choice::Branch;
+use uhura_plan::{Plan, Requirement, Uncertain};
+use uhura_relax::{RelaxRefusal, Schedule, earliest};
+use uhura_veto::Vetoes;
+use uhura_worst::Loosening;
 
-/// Makes the list one zero for each event.
-fn clear_times(times: &mut Vec<i64>, events: usize) -> Result<(), AllocError>
-    ensures { IfOk result (λ _. length times.new.items ≡ events) }
+/// Answers the question, where the plan can be asked so far. The solver is room to work in, kept from one question to
+/// the next.
+pub fn propose(
+    alloc: Global,
+    plan: &Plan,
+    vetoes: &Vetoes,
+    solver: &mut Solver,
+    text: &mut Vec<u8>,
+) -> Result<bool, AllocError>
+    requires free { vetoes.now ≡ [] }
+    requires empty { text.old.items ≡ [] }
+    ensures { IfOk result (λ refused. AnswersQuestion (is_unpriced_plan plan.now) (free plan.now) text.new.items refused (free plan.now)) }
 {
-    times.clear();
-    times.resize(events, 0)
+    if is_unpriced_plan(plan) {
+        put_answer(alloc, plan, vetoes, solver, text)?;
+        Ok(false)
+    } else {
+        put_unbuilt(text)?;
+        Ok(true)
+    }
 }
 
 /// Writes the best proposal into the text, or `none`.
 fn put_answer(
-    text: &mut Vec<u8>,
+    alloc: Global,
     plan: &Plan,
-    constraints: &mut Vec<Constraint>,
-    times: &mut [i64],
+    vetoes: &Vetoes,
+    solver: &mut Solver,
+    text: &mut Vec<u8>,
 ) -> Result<(), AllocError>
-    requires plain { IsPlain plan.now }
-    requires count { length times.old ≡ length plan.now.events }
+    requires unpriced { IsUnpriced plan.now }
+    requires free { vetoes.now ≡ [] }
     requires empty { text.old.items ≡ [] }
     ensures { IfOk result (λ _. IsProposed (free plan.now) text.new.items) }
 {
-    match best_branch(plan, constraints, times)? {
+    match best_branch(plan, vetoes, solver) {
         Some(branch) => {
-            schedule_branch(plan, &branch, constraints, times)?;
-            put_proposal(text, plan, &branch, times)?;
+            let schedule = schedule_branch(alloc, plan, &branch)?;
+            put_proposal(text, plan, &branch, &schedule)?;
             Ok(())
         }
         None => {
@@ -44,38 +67,50 @@ fn put_answer(
     }
 }
 
-/// Writes the best proposal into the text, or `none`. The two lists are room to work in, kept from one question to the
-/// next.
-fn solve(
-    plan: &Plan,
-    constraints: &mut Vec<Constraint>,
-    times: &mut Vec<i64>,
-    text: &mut Vec<u8>,
-) -> Result<(), AllocError>
-    requires plain { IsPlain plan.now }
-    requires empty { text.old.items ≡ [] }
-    ensures { IfOk result (λ _. IsProposed (free plan.now) text.new.items) }
+/// The earliest schedule of an open branch, with nothing loosened or narrowed. There is one: without prices an edge that
+/// isn't loose has the bound of its side, so times that keep such edges pass no bound.
+fn schedule_branch(alloc: Global, plan: &Plan, branch: &Branch) -> Result<Schedule, AllocError>
+    requires unpriced { IsUnpriced plan.now }
+    requires open_branch { IsOpen (free plan.now) branch.now }
+    ensures { IfOk result (λ schedule. IsEarliestSchedule plan.now branch.now [] schedule) }
 {
-    clear_times(times, plan.events() as usize)?;
-    put_answer(text, plan, constraints, times)
+    match earliest(alloc, plan, branch, &Loosening::new(alloc)) {
+        Ok(schedule) => Ok(schedule),
+        Err(RelaxRefusal::Memory(error)) => Err(error),
+        Err(RelaxRefusal::Broken { .. }) => unreachable!(),
+    }
 }
 
 /// Whether the plan can be asked so far.
-#[tactic(auto, using(crate::proofs::PlainTest::plain_from_test))]
-fn is_plain(plan: &Plan) -> bool
-    ensures plain { result ≡ is_plain plan.now }
-    ensures meets { result ≡ true → IsPlain plan.now }
+#[tactic(auto, using(crate::proofs::Unpriced::unpriced_from_test))]
+fn is_unpriced_plan(plan: &Plan) -> bool
+    ensures test { result ≡ is_unpriced_plan plan.now }
+    ensures unpriced { result ≡ true → IsUnpriced plan.now }
 {
-    plan.uncertains() == 0 && has_no_price(plan)
+    has_no_price(plan) && has_no_rate(plan)
 }
 
 /// Whether no requirement has a price.
 fn has_no_price(plan: &Plan) -> bool
-    ensures { result ≡ list_all is_unpriced plan.now.requirements }
+    ensures test { result ≡ list_all is_unpriced plan.now.requirements }
+    ensures sound { IsSound plan.now }
 {
     for position in 0..plan.requirements() {
         let requirement = plan.requirement(position).unwrap();
         if !is_unpriced(requirement) {
+            return false;
+        }
+    }
+    true
+}
+
+/// Whether no duration has a rate.
+fn has_no_rate(plan: &Plan) -> bool
+    ensures { result ≡ list_all is_unrated plan.now.uncertains }
+{
+    for duration in 0..plan.uncertains() {
+        let uncertain = plan.uncertain(duration).unwrap();
+        if !is_unrated(uncertain) {
             return false;
         }
     }
@@ -89,21 +124,9 @@ fn is_unpriced(requirement: &Requirement) -> bool
     requirement.lower.price.is_none() && requirement.upper.price.is_none()
 }
 
-/// Answers the question, where the plan can be asked so far.
-pub fn propose(
-    plan: &Plan,
-    constraints: &mut Vec<Constraint>,
-    times: &mut Vec<i64>,
-    text: &mut Vec<u8>,
-) -> Result<bool, AllocError>
-    requires empty { text.old.items ≡ [] }
-    ensures { IfOk result (λ refused. AnswersQuestion (is_plain plan.now) (free plan.now) text.new.items refused (free plan.now)) }
+/// Whether neither side of the duration has a rate.
+fn is_unrated(uncertain: &Uncertain) -> bool
+    ensures { result ≡ is_unrated uncertain.now }
 {
-    if is_plain(plan) {
-        solve(plan, constraints, times, text)?;
-        Ok(false)
-    } else {
-        put_unbuilt(text)?;
-        Ok(true)
-    }
+    uncertain.lower_rate.is_none() && uncertain.upper_rate.is_none()
 }

@@ -8,28 +8,33 @@ use crate::Answer;
 use crate::edit::edit;
 use crate::error::{put_line_error, put_unbuilt};
 use crate::propose::propose;
-use crate::schedule::Constraint;
+use crate::solver::Solver;
 use std::alloc::{AllocError, Global};
 use std::marker::Model;
 use uhura_command::{Command, State, parse};
+use uhura_veto::Vetoes;
 
-/// A dialogue: the state as the lines so far made it. It keeps its memory from one line to the next.
+/// A dialogue: the state as the lines so far made it. It keeps its memory from one line to the next. No line makes a veto
+/// yet, so it has none.
 #[derive(Drop)]
 pub struct Session {
     alloc: Global,
     state: State,
-    constraints: Vec<Constraint>,
-    times: Vec<i64>,
+    vetoes: Vetoes,
+    solver: Solver,
     text: Vec<u8>,
 }
 
 impl Model for Session {
+    ghost use Rattle.std.specs.Prelude.{◌≡◌, []};
     ghost use Rattle.uhura_command.specs.State.{state_of};
     ghost use Rattle.uhura_session.specs.Session.{Dialogue};
 
     ghost Value = { Dialogue };
 
     ghost view = { λ s. record { state = state_of s.state; text = s.text.items } };
+
+    ghost invariant = { λ s. s.vetoes ≡ [] };
 }
 
 impl Session {
@@ -43,8 +48,8 @@ impl Session {
         Ok(Session {
             alloc,
             state: State::new(alloc)?,
-            constraints: Vec::new(alloc),
-            times: Vec::new(alloc),
+            vetoes: Vetoes::new(alloc)?,
+            solver: Solver::new(alloc)?,
             text: Vec::new(alloc),
         })
     }
@@ -99,9 +104,10 @@ impl Session {
                 Ok(false)
             }
             Command::Propose => propose(
+                self.alloc,
                 &self.state.plan,
-                &mut self.constraints,
-                &mut self.times,
+                &self.vetoes,
+                &mut self.solver,
                 &mut self.text,
             ),
             Command::Prove => {

@@ -59,10 +59,7 @@ pub fn duration_room(vetoes: &Vetoes, duration: u32, side: Side, uncertain: &Unc
         side,
     };
     match rate {
-        Some(_) => {
-            let width = uncertain.upper.abs_diff(uncertain.lower);
-            under_caps(Room::Units(width), vetoes.items(), key)
-        },
+        Some(_) => under_caps(Room::Units(width(uncertain)), vetoes.items(), key),
         None => Room::Units(0),
     }
 }

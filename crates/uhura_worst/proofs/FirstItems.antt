@@ -1,4 +1,4 @@
--- A table of the first items of a state, one item after another.
+-- A table of the first items of a plan, one item after another.
 use Rattle.std.proofs.Common.{◌≡◌, ◌≢◌, ℕ, zero, suc, ◌+◌, ◌<◌, Bool, true, false, true≢false, List, [], ◌∷◌, ◌++◌, length, take, get_or, Option, None, Some, slice_get, Contains, AllPairs, refl, sym, ap, subst, ◌∙◌, arith, length-take-le, drop, take-append-drop}
 use Rattle.std.specs.Prelude.{find, if◌then◌else◌, nat_eq, cond, option_map, option_and_then, ◌==◌}
 use Rattle.std.specs.Option.{option_or}
@@ -13,14 +13,13 @@ use Rattle.uhura_plan.specs.declared.uncertain.Uncertain.{Uncertain}
 use Rattle.uhura_plan.specs.Lists.{Lists, slots}
 use Rattle.uhura_plan.specs.Find.{requirement_in}
 use Rattle.uhura_net.specs.declared.edge.Edge.{Edge}
-use Rattle.uhura_veto.specs.State.{State}
 use Rattle.uhura_veto.specs.Room.{is_same_item}
-use Rattle.uhura_worst.specs.Edges.{requirement_edge, duration_edge, item_of, edge_in}
-use Rattle.uhura_worst.specs.Filled.{IsTableOf, first_items, PutsItem}
+use Rattle.uhura_worst.specs.Edges.{Tables, edge_among, item_of}
+use Rattle.uhura_worst.specs.Filled.{IsFilledBy, first_items, PutsItem}
 use Rattle.uhura_worst.proofs.SoundItems.{Contains-found}
 
 -- what is found passes the test
-passes : {X : Type 0} (test : X → Bool) (xs : List X) (x : X) → find test xs ≡ Some x → test x ≡ true
+pub passes : {X : Type 0} (test : X → Bool) (xs : List X) (x : X) → find test xs ≡ Some x → test x ≡ true
 passes test [] x found = absurd (let never : ⊥ = cc in never)
 passes test (y ∷ ys) x found = by (test y) refl (passes test ys x) found
   where
@@ -79,22 +78,22 @@ requirement_in-member plan r distinct (i, below, is) =
     ∙ ap (λ (o : Option Requirement). option_or o (find (λ (q : Requirement). q.slot == r.slot) (drop (i + 1) plan.requirements))) first
 
 -- one requirement more
-pub IsTableOf-next_requirement : (state : State) (i : ℕ) (r : Requirement) (old new : List (Option Edge)) → AllPairs ◌≢◌ (slots state.plan.requirements) → slice_get state.plan.requirements i ≡ Some r →
-    IsTableOf (first_items state i 0) old → PutsItem (item.Requirement r.slot) (requirement_edge state.vetoes r) old new → IsTableOf (first_items state (i + 1) 0) new
-IsTableOf-next_requirement state i r old new distinct is before puts key placed =
+pub IsFilledBy-next_requirement : (tables : Tables) (plan : Lists) (i : ℕ) (r : Requirement) (old new : List (Option Edge)) → AllPairs ◌≢◌ (slots plan.requirements) → slice_get plan.requirements i ≡ Some r →
+    IsFilledBy tables (first_items plan i 0) old → PutsItem (item.Requirement r.slot) (tables.of_requirement r) old new → IsFilledBy tables (first_items plan (i + 1) 0) new
+IsFilledBy-next_requirement tables plan i r old new distinct is before puts key placed =
     puts key placed
-    ∙ ap (λ (h : Option Edge). if is_same_item (item.Requirement r.slot) (item_of key) then requirement_edge state.vetoes r key else h) (before key placed)
+    ∙ ap (λ (h : Option Edge). if is_same_item (item.Requirement r.slot) (item_of key) then tables.of_requirement r key else h) (before key placed)
     ∙ by (item_of key)
   where
-    chosen : (slot : ℕ) (b : Bool) → (o : Option Requirement) → (if b then requirement_edge state.vetoes r key else option_and_then (λ (q : Requirement). requirement_edge state.vetoes q key) o) ≡ option_and_then (λ (q : Requirement). requirement_edge state.vetoes q key) (if b then Some r else o)
+    chosen : (slot : ℕ) (b : Bool) → (o : Option Requirement) → (if b then tables.of_requirement r key else option_and_then (λ (q : Requirement). tables.of_requirement q key) o) ≡ option_and_then (λ (q : Requirement). tables.of_requirement q key) (if b then Some r else o)
     chosen slot true o = refl
     chosen slot false o = refl
 
-    by : (of : Item) → (if is_same_item (item.Requirement r.slot) of then requirement_edge state.vetoes r key else edge_in (first_items state i 0) key of) ≡ edge_in (first_items state (i + 1) 0) key of
+    by : (of : Item) → (if is_same_item (item.Requirement r.slot) of then tables.of_requirement r key else edge_among tables (first_items plan i 0) key of) ≡ edge_among tables (first_items plan (i + 1) 0) key of
     by (item.Uncertain d) = refl
     by (item.Requirement slot) =
-        chosen slot (nat_eq r.slot slot) (find (λ (q : Requirement). q.slot == slot) (take i state.plan.requirements))
-        ∙ ap (option_and_then (λ (q : Requirement). requirement_edge state.vetoes q key)) (sym (chosen_requirement state.plan.requirements i slot r distinct is))
+        chosen slot (nat_eq r.slot slot) (find (λ (q : Requirement). q.slot == slot) (take i plan.requirements))
+        ∙ ap (option_and_then (λ (q : Requirement). tables.of_requirement q key)) (sym (chosen_requirement plan.requirements i slot r distinct is))
 
 -- a list up to a place has the element there
 taken_at : {X : Type 0} (xs : List X) (d : ℕ) (x : X) → slice_get xs d ≡ Some x → slice_get (take (suc d) xs) d ≡ Some x
@@ -112,24 +111,24 @@ taken_elsewhere (y ∷ ys) (suc d) zero other = refl
 taken_elsewhere (y ∷ ys) (suc d) (suc e) other = taken_elsewhere ys d e (λ same. other (ap (λ (n : ℕ). suc n) same))
 
 -- one duration more
-pub IsTableOf-next_duration : (state : State) (requirements d : ℕ) (u : Uncertain) (old new : List (Option Edge)) → slice_get state.plan.uncertains d ≡ Some u →
-    IsTableOf (first_items state requirements d) old → PutsItem (item.Uncertain d) (duration_edge state.vetoes d u) old new → IsTableOf (first_items state requirements (d + 1)) new
-IsTableOf-next_duration state requirements d u old new is before puts key placed =
+pub IsFilledBy-next_duration : (tables : Tables) (plan : Lists) (requirements d : ℕ) (u : Uncertain) (old new : List (Option Edge)) → slice_get plan.uncertains d ≡ Some u →
+    IsFilledBy tables (first_items plan requirements d) old → PutsItem (item.Uncertain d) (tables.of_duration d u) old new → IsFilledBy tables (first_items plan requirements (d + 1)) new
+IsFilledBy-next_duration tables plan requirements d u old new is before puts key placed =
     puts key placed
-    ∙ ap (λ (h : Option Edge). if is_same_item (item.Uncertain d) (item_of key) then duration_edge state.vetoes d u key else h) (before key placed)
+    ∙ ap (λ (h : Option Edge). if is_same_item (item.Uncertain d) (item_of key) then tables.of_duration d u key else h) (before key placed)
     ∙ by (item_of key)
   where
-    next : (e : ℕ) → option_and_then (λ (v : Uncertain). duration_edge state.vetoes e v key) (slice_get (take (suc d) state.plan.uncertains) e) ≡ option_and_then (λ (v : Uncertain). duration_edge state.vetoes e v key) (slice_get (take (d + 1) state.plan.uncertains) e)
-    next e = ap (λ (n : ℕ). option_and_then (λ (v : Uncertain). duration_edge state.vetoes e v key) (slice_get (take n state.plan.uncertains) e)) (let one : suc d ≡ d + 1 = omega arith in one)
+    next : (e : ℕ) → option_and_then (λ (v : Uncertain). tables.of_duration e v key) (slice_get (take (suc d) plan.uncertains) e) ≡ option_and_then (λ (v : Uncertain). tables.of_duration e v key) (slice_get (take (d + 1) plan.uncertains) e)
+    next e = ap (λ (n : ℕ). option_and_then (λ (v : Uncertain). tables.of_duration e v key) (slice_get (take n plan.uncertains) e)) (let one : suc d ≡ d + 1 = omega arith in one)
 
-    chosen : (e : ℕ) (b : Bool) → nat_eq d e ≡ b → (if b then duration_edge state.vetoes d u key else option_and_then (λ (v : Uncertain). duration_edge state.vetoes e v key) (slice_get (take d state.plan.uncertains) e)) ≡ option_and_then (λ (v : Uncertain). duration_edge state.vetoes e v key) (slice_get (take (suc d) state.plan.uncertains) e)
+    chosen : (e : ℕ) (b : Bool) → nat_eq d e ≡ b → (if b then tables.of_duration d u key else option_and_then (λ (v : Uncertain). tables.of_duration e v key) (slice_get (take d plan.uncertains) e)) ≡ option_and_then (λ (v : Uncertain). tables.of_duration e v key) (slice_get (take (suc d) plan.uncertains) e)
     chosen e true same =
-        subst (λ (n : ℕ). duration_edge state.vetoes d u key ≡ option_and_then (λ (v : Uncertain). duration_edge state.vetoes n v key) (slice_get (take (suc d) state.plan.uncertains) n)) ((Decides-eqb d e).0 same)
-        (ap (option_and_then (λ (v : Uncertain). duration_edge state.vetoes d v key)) (sym (taken_at state.plan.uncertains d u is)))
+        subst (λ (n : ℕ). tables.of_duration d u key ≡ option_and_then (λ (v : Uncertain). tables.of_duration n v key) (slice_get (take (suc d) plan.uncertains) n)) ((Decides-eqb d e).0 same)
+        (ap (option_and_then (λ (v : Uncertain). tables.of_duration d v key)) (sym (taken_at plan.uncertains d u is)))
     chosen e false differs =
-        ap (option_and_then (λ (v : Uncertain). duration_edge state.vetoes e v key))
-        (sym (taken_elsewhere state.plan.uncertains d e (λ same. true≢false (sym ((Decides-eqb d e).1 (sym same)) ∙ differs))))
+        ap (option_and_then (λ (v : Uncertain). tables.of_duration e v key))
+        (sym (taken_elsewhere plan.uncertains d e (λ same. true≢false (sym ((Decides-eqb d e).1 (sym same)) ∙ differs))))
 
-    by : (of : Item) → (if is_same_item (item.Uncertain d) of then duration_edge state.vetoes d u key else edge_in (first_items state requirements d) key of) ≡ edge_in (first_items state requirements (d + 1)) key of
+    by : (of : Item) → (if is_same_item (item.Uncertain d) of then tables.of_duration d u key else edge_among tables (first_items plan requirements d) key of) ≡ edge_among tables (first_items plan requirements (d + 1)) key of
     by (item.Requirement slot) = refl
     by (item.Uncertain e) = chosen e (nat_eq d e) refl ∙ next e

@@ -1,9 +1,10 @@
 mod Single
 mod CappedDrive
 mod Puts
-mod FirstItems
+pub mod FirstItems
 pub mod SoundItems
-mod WorstCase
+pub mod WorstCase
 mod FirmEdges
-mod PassedUnits
+pub mod WholeTimes
+pub mod PassedUnits
 mod Pairs

@@ -1,4 +1,4 @@
--- One more side among those that have units.
+-- Sides that have units.
 use Rattle.std.proofs.Common.{◌≡◌, ◌≢◌, ℕ, zero, suc, ◌<◌, ◌≤◌, Bool, true, false, true≢false, List, [], ◌∷◌, ◌++◌, length, get_or, All, sym, ap, ◌∙◌, arith}
 use Rattle.std.specs.Prelude.{if◌then◌else◌}
 use Rattle.std.proofs.lemmas.List.Elements.{All-push, All-head, All-tail}
@@ -24,6 +24,17 @@ named-units (pair ∷ pairs) key (suc i) d units below named =
     by true rest = (All-head (λ (p : SideKey × ℕ). AreUnits p.1) pair pairs units).some
     by false rest = rest
 
+-- a side has at most as many units as a pair may
+pub units_in-most : (pairs : List (SideKey × ℕ)) (key : SideKey) → All (λ (pair : SideKey × ℕ). AreUnits pair.1) pairs → units_in pairs key ≤ 10000000000000
+units_in-most [] key units = omega arith
+units_in-most (pair ∷ pairs) key units =
+    by (is_same_key pair.0 key) (units_in-most pairs key (All-tail (λ (p : SideKey × ℕ). AreUnits p.1) pair pairs units))
+  where
+    by : (b : Bool) → units_in pairs key ≤ 10000000000000 → (if b then pair.1 else units_in pairs key) ≤ 10000000000000
+    by true rest = (All-head (λ (p : SideKey × ℕ). AreUnits p.1) pair pairs units).most
+    by false rest = rest
+
+-- one more side
 pub IsLoosening-push : (pairs : List (SideKey × ℕ)) (key : SideKey) (units : ℕ) → IsLoosening pairs → units_in pairs key ≡ 0 → AreUnits units → IsLoosening (pairs ++ (key, units) ∷ [])
 IsLoosening-push pairs key units sound fresh some = record {
   units = All-push (λ (p : SideKey × ℕ). AreUnits p.1) pairs (key, units) sound.units some;

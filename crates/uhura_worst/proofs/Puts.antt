@@ -12,10 +12,7 @@ use Rattle.uhura_plan.specs.declared.key.EdgeKey.TheVariants.{Loose, Firm, Order
 use Rattle.uhura_net.specs.declared.edge.Edge.{Edge}
 use Rattle.uhura_net.specs.Place.{place_number, HasPlace}
 use Rattle.uhura_veto.specs.Room.{is_same_side, is_same_item, is_same_key}
-use Rattle.uhura_plan.specs.declared.requirement.Requirement.{Requirement as Stated}
-use Rattle.uhura_veto.specs.declared.veto.Veto.{Veto}
-use Rattle.uhura_worst.specs.Edges.{requirement_edge, item_of}
-use Rattle.uhura_worst.specs.Filled.{held, is_same_edge, Puts, PutsItem}
+use Rattle.uhura_worst.specs.Filled.{held, is_same_edge, Puts}
 
 -- different edges stand at different places
 one_to_one : (a b : EdgeKey) → HasPlace a → HasPlace b → place_number a ≡ place_number b → a ≡ b
@@ -88,63 +85,3 @@ Puts-set key edge old new places below placed is other other_placed = by (is_sam
         ap (λ (table : List (Option Edge)). get_or table (place_number other) None) is
         ∙ get_or-set_other old (place_number key) (place_number other) edge None
         (λ same. true≢false (sym (itself_edge key) ∙ ap (λ (k : EdgeKey). is_same_edge key k) (one_to_one key other placed other_placed (sym same)) ∙ differs))
-
--- a test joined with a known one
-with_true : (b : Bool) (x y : Option Edge) → (if b && true then x else y) ≡ (if b then x else y)
-with_true true x y = refl
-with_true false x y = refl
-
-with_false : (b : Bool) (x y : Option Edge) → (if b && false then x else y) ≡ y
-with_false true x y = refl
-with_false false x y = refl
-
--- the four edges of a requirement
-pub PutsItem-requirement : (vetoes : List Veto) (r : Stated) (t0 t1 t2 t3 t4 : List (Option Edge)) →
-    Puts (Loose (record { item = Requirement r.slot; side = Lower })) (requirement_edge vetoes r (Loose (record { item = Requirement r.slot; side = Lower }))) t0 t1 →
-    Puts (Firm (record { item = Requirement r.slot; side = Lower })) (requirement_edge vetoes r (Firm (record { item = Requirement r.slot; side = Lower }))) t1 t2 →
-    Puts (Loose (record { item = Requirement r.slot; side = Upper })) (requirement_edge vetoes r (Loose (record { item = Requirement r.slot; side = Upper }))) t2 t3 →
-    Puts (Firm (record { item = Requirement r.slot; side = Upper })) (requirement_edge vetoes r (Firm (record { item = Requirement r.slot; side = Upper }))) t3 t4 →
-    PutsItem (Requirement r.slot) (requirement_edge vetoes r) t0 t4
-PutsItem-requirement vetoes r t0 t1 t2 t3 t4 first second third fourth key placed = by key placed
-  where
-    loose : (item : Item) (side : Side) → HasPlace (Loose (record { item = item; side = side })) →
-        held t4 (Loose (record { item = item; side = side })) ≡ (if is_same_item (Requirement r.slot) item then requirement_edge vetoes r (Loose (record { item = item; side = side })) else held t0 (Loose (record { item = item; side = side })))
-    loose item Lower placed =
-        fourth (Loose (record { item = item; side = Lower })) placed
-        ∙ third (Loose (record { item = item; side = Lower })) placed
-        ∙ with_false (is_same_item (Requirement r.slot) item) (requirement_edge vetoes r (Loose (record { item = item; side = Upper }))) (held t2 (Loose (record { item = item; side = Lower })))
-        ∙ second (Loose (record { item = item; side = Lower })) placed
-        ∙ first (Loose (record { item = item; side = Lower })) placed
-        ∙ with_true (is_same_item (Requirement r.slot) item) (requirement_edge vetoes r (Loose (record { item = item; side = Lower }))) (held t0 (Loose (record { item = item; side = Lower })))
-    loose item Upper placed =
-        fourth (Loose (record { item = item; side = Upper })) placed
-        ∙ third (Loose (record { item = item; side = Upper })) placed
-        ∙ with_true (is_same_item (Requirement r.slot) item) (requirement_edge vetoes r (Loose (record { item = item; side = Upper }))) (held t2 (Loose (record { item = item; side = Upper })))
-        ∙ ap (λ (h : Option Edge). if is_same_item (Requirement r.slot) item then requirement_edge vetoes r (Loose (record { item = item; side = Upper })) else h)
-        (second (Loose (record { item = item; side = Upper })) placed
-        ∙ first (Loose (record { item = item; side = Upper })) placed
-        ∙ with_false (is_same_item (Requirement r.slot) item) (requirement_edge vetoes r (Loose (record { item = item; side = Lower }))) (held t0 (Loose (record { item = item; side = Upper }))))
-
-    firm : (item : Item) (side : Side) → HasPlace (Firm (record { item = item; side = side })) →
-        held t4 (Firm (record { item = item; side = side })) ≡ (if is_same_item (Requirement r.slot) item then requirement_edge vetoes r (Firm (record { item = item; side = side })) else held t0 (Firm (record { item = item; side = side })))
-    firm item Lower placed =
-        fourth (Firm (record { item = item; side = Lower })) placed
-        ∙ with_false (is_same_item (Requirement r.slot) item) (requirement_edge vetoes r (Firm (record { item = item; side = Upper }))) (held t3 (Firm (record { item = item; side = Lower })))
-        ∙ third (Firm (record { item = item; side = Lower })) placed
-        ∙ second (Firm (record { item = item; side = Lower })) placed
-        ∙ with_true (is_same_item (Requirement r.slot) item) (requirement_edge vetoes r (Firm (record { item = item; side = Lower }))) (held t1 (Firm (record { item = item; side = Lower })))
-        ∙ ap (λ (h : Option Edge). if is_same_item (Requirement r.slot) item then requirement_edge vetoes r (Firm (record { item = item; side = Lower })) else h)
-        (first (Firm (record { item = item; side = Lower })) placed)
-    firm item Upper placed =
-        fourth (Firm (record { item = item; side = Upper })) placed
-        ∙ with_true (is_same_item (Requirement r.slot) item) (requirement_edge vetoes r (Firm (record { item = item; side = Upper }))) (held t3 (Firm (record { item = item; side = Upper })))
-        ∙ ap (λ (h : Option Edge). if is_same_item (Requirement r.slot) item then requirement_edge vetoes r (Firm (record { item = item; side = Upper })) else h)
-        (third (Firm (record { item = item; side = Upper })) placed
-        ∙ second (Firm (record { item = item; side = Upper })) placed
-        ∙ with_false (is_same_item (Requirement r.slot) item) (requirement_edge vetoes r (Firm (record { item = item; side = Lower }))) (held t1 (Firm (record { item = item; side = Upper })))
-        ∙ first (Firm (record { item = item; side = Upper })) placed)
-
-    by : (key : EdgeKey) → HasPlace key → held t4 key ≡ (if is_same_item (Requirement r.slot) (item_of key) then requirement_edge vetoes r key else held t0 key)
-    by (Loose k) placed = loose k.item k.side placed
-    by (Firm k) placed = firm k.item k.side placed
-    by (Order d) placed = fourth (Order d) placed ∙ third (Order d) placed ∙ second (Order d) placed ∙ first (Order d) placed

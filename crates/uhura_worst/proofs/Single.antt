@@ -7,7 +7,13 @@ pub for_single : {X : Type 0} (P : X → Type 0) (x r : X) → Contains (x ∷ [
 for_single P x r (zero, below, is) p = subst P is p
 for_single P x r (suc k, below, is) p = absurd (omega (arith, below))
 
--- and of the element at each place
+-- and what holds of two elements holds of each
+pub for_pair : {X : Type 0} (P : X → Type 0) (x y r : X) → Contains (x ∷ y ∷ []) r → P x → P y → P r
+for_pair P x y r (zero, below, is) p q = subst P is p
+for_pair P x y r (suc zero, below, is) p q = subst P is q
+for_pair P x y r (suc (suc k), below, is) p q = absurd (omega (arith, below))
+
+-- what holds of the one element at its place holds at each place
 pub at_single : {X : Type 0} (P : ℕ → X → Type 0) (x r : X) (k : ℕ) → slice_get (x ∷ []) k ≡ Some r → P 0 x → P k r
 at_single P x r zero is p = let same : x ≡ r = cc in subst (P 0) same p
 at_single P x r (suc k) is p = cc

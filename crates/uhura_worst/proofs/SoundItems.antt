@@ -14,7 +14,7 @@ use Rattle.uhura_plan.specs.Sound.{IsSound, IsSoundUncertain, IsSoundRequirement
 use Rattle.uhura_worst.specs.Nodes.{HasNode, HasNodes}
 
 -- what is looked up at a place is in the list
-Contains-at : {X : Type 0} (xs : List X) (i : ℕ) (x : X) → slice_get xs i ≡ Some x → Contains xs x
+pub Contains-at : {X : Type 0} (xs : List X) (i : ℕ) (x : X) → slice_get xs i ≡ Some x → Contains xs x
 Contains-at xs i x is = (i, slice_get_within xs i x is, get_or_from_slice_get xs i x x is)
 
 -- and so is what passes a test first

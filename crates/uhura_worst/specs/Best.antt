@@ -1,5 +1,6 @@
 -- Which of the allowed proposals a question is answered by.
 use Rattle.std.specs.Prelude.{◌≡◌, ℕ, ◌*◌, ◌<◌, ◌≤◌, ℤ, pos, ◌≤ℤ◌, length}
+use Rattle.uhura_plan.specs.Lists.{Lists}
 use Rattle.uhura_choice.specs.Branch.{IsEarlier}
 use Rattle.uhura_veto.specs.State.{State}
 use Rattle.uhura_worst.specs.Proposal.{Proposal, Meets}
@@ -17,21 +18,21 @@ IsFirst state p = (k : ℕ) (q : Proposal) → Allowed state k q → cost state.
     IsEarlier q.branch p.branch → ⊥
 
 -- each controllable event has a time of at least 0
-abbrev pub StartsAtZero : State → (ℕ → ℤ) → Type 0
-StartsAtZero state times = (e : ℕ) → e < length state.plan.events → pos 0 ≤ℤ times e
+abbrev pub StartsAtZero : Lists → (ℕ → ℤ) → Type 0
+StartsAtZero plan times = (e : ℕ) → e < length plan.events → pos 0 ≤ℤ times e
 
 -- with the branch and the units of p, no schedule from 0 on that meets the requirements has an event before its
 -- time in p
-pub record IsEarliest (state : State) (p : Proposal) : Type 0 where
-  pub from_zero : StartsAtZero state p.times
-  pub least : (times : ℕ → ℤ) → StartsAtZero state times → Meets state.plan 1 (record p { times = times }) →
-      (e : ℕ) → e < length state.plan.events → p.times e ≤ℤ times e
+pub record IsEarliest (plan : Lists) (p : Proposal) : Type 0 where
+  pub from_zero : StartsAtZero plan p.times
+  pub least : (times : ℕ → ℤ) → StartsAtZero plan times → Meets plan 1 (record p { times = times }) →
+      (e : ℕ) → e < length plan.events → p.times e ≤ℤ times e
 
 -- the answer to a question
 pub record IsBest (state : State) (p : Proposal) : Type 0 where
   pub cheapest : IsCheapest state p
   pub first : IsFirst state p
-  pub earliest : IsEarliest state p
+  pub earliest : IsEarliest state.plan p
 
 -- nothing is allowed in whole units
 abbrev pub AllowsNothing : State → Type 0

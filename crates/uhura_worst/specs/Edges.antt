@@ -81,10 +81,22 @@ item_of (Loose key) = key.item
 item_of (Firm key) = key.item
 item_of (Order d) = item.Uncertain d
 
+-- tables of edges: one for each requirement, and one for each duration and its place
+pub record Tables : Type 0 where
+  pub of_requirement : Requirement → EdgeKey → Option Edge
+  pub of_duration : ℕ → Uncertain → EdgeKey → Option Edge
+
 -- an edge in the table of an item of the plan, none where there is no such item
+abbrev pub edge_among : Tables → Lists → EdgeKey → Item → Option Edge
+edge_among tables plan key (item.Requirement slot) = option_and_then (λ r. tables.of_requirement r key) (requirement_in plan slot)
+edge_among tables plan key (item.Uncertain d) = option_and_then (λ u. tables.of_duration d u key) (slice_get plan.uncertains d)
+
+-- the tables under these vetoes
+abbrev pub tables_under : List Veto → Tables
+tables_under vetoes = record { of_requirement = requirement_edge vetoes; of_duration = duration_edge vetoes }
+
 abbrev pub edge_in : State → EdgeKey → Item → Option Edge
-edge_in state key (item.Requirement slot) = option_and_then (λ r. requirement_edge state.vetoes r key) (requirement_in state.plan slot)
-edge_in state key (item.Uncertain d) = option_and_then (λ u. duration_edge state.vetoes d u key) (slice_get state.plan.uncertains d)
+edge_in state key of = edge_among (tables_under state.vetoes) state.plan key of
 
 -- the edge of a key, where it is there
 abbrev pub edge_of : State → EdgeKey → Option Edge

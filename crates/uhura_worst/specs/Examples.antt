@@ -97,13 +97,13 @@ two_sides = record { plan = record { events = codes "a" ∷ codes "b" ∷ []; un
 abbrev pub by_left : Proposal
 by_left = at_zero (Alternative 0 ∷ []) []
 
--- b at 12
-abbrev pub right_times : ℕ → ℤ
-right_times zero = pos 0
-right_times (suc e) = pos 12
+-- the first event at 0, and every other at this time
+abbrev pub first_at_zero : ℤ → ℕ → ℤ
+first_at_zero time zero = pos 0
+first_at_zero time (suc e) = time
 
 abbrev pub by_right : Proposal
-by_right = record { branch = Alternative 1 ∷ []; units = units_in ((requirement_side 0 Upper, 2) ∷ []); times = right_times }
+by_right = record { branch = Alternative 1 ∷ []; units = units_in ((requirement_side 0 Upper, 2) ∷ []); times = first_at_zero (pos 12) }
 
 -- Two drives from one start, of 10 to 20 and of 30 to 50. Their ends come 15 to 35 apart, or less or more at 1 each.
 abbrev pub short : Uncertain
@@ -134,6 +134,27 @@ drives_apart most = record {
   plan = record { events = codes "s" ∷ []; uncertains = short ∷ long ∷ []; choices = []; requirements = apart most ∷ [] };
   vetoes = [];
 }
+
+-- A drive of 30 to 50 minutes to a film. The film begins when the drive is over or later, and at most so many minutes
+-- after leaving home. Nothing may be loosened.
+abbrev pub plain_drive : Uncertain
+plain_drive = record drive { upper_rate = None }
+
+abbrev pub in_time : Requirement
+in_time = record { name = codes "w"; slot = 0; from = End 0; to = Controllable 1; lower = bounded (pos 0); upper = unbounded; guard = [] }
+
+abbrev pub film_within : ℕ → Requirement
+film_within most = record { name = codes "z"; slot = 1; from = Controllable 0; to = Controllable 1; lower = unbounded; upper = bounded (pos most); guard = [] }
+
+abbrev pub drive_to_film : ℕ → State
+drive_to_film most = record {
+  plan = record { events = codes "home" ∷ codes "film" ∷ []; uncertains = plain_drive ∷ []; choices = []; requirements = in_time ∷ film_within most ∷ [] };
+  vetoes = [];
+}
+
+-- leaving home at 0 for a film at this time, with nothing loosened
+abbrev pub film_at : ℕ → Proposal
+film_at time = record { branch = []; units = units_in []; times = first_at_zero (pos time) }
 
 -- A meal at home for 0 or out for 5. Out, it is at one of two places for 9 each, and the first of them is denied.
 abbrev pub meal : Choice

@@ -3,25 +3,30 @@ use Rattle.std.specs.Prelude.{◌≡◌, ℕ, Bool, false, if◌then◌else◌, 
 use Rattle.uhura_plan.specs.declared.key.Item.{Item}
 use Rattle.uhura_plan.specs.declared.key.EdgeKey.{EdgeKey}
 use Rattle.uhura_plan.specs.declared.key.EdgeKey.TheVariants.{Loose, Firm, Order}
+use Rattle.uhura_plan.specs.Lists.{Lists}
 use Rattle.uhura_net.specs.declared.edge.Edge.{Edge}
 use Rattle.uhura_net.specs.Place.{place_number, HasPlace}
 use Rattle.uhura_veto.specs.State.{State}
 use Rattle.uhura_veto.specs.Room.{is_same_item, is_same_key}
-use Rattle.uhura_worst.specs.Edges.{edge_of, item_of}
+use Rattle.uhura_worst.specs.Edges.{Tables, edge_among, tables_under, item_of}
 
 -- what a table holds at the place of a key
 abbrev pub held : List (Option Edge) → EdgeKey → Option Edge
 held table key = slice_index_or table (place_number key) None
 
--- the table holds the edge of each key
-abbrev pub IsTableOf : State → List (Option Edge) → Type 0
-IsTableOf state table = (key : EdgeKey) → HasPlace key → held table key ≡ edge_of state key
+-- the table holds the edge of each key, as the tables of the plan's items have it
+abbrev pub IsFilledBy : Tables → Lists → List (Option Edge) → Type 0
+IsFilledBy tables plan table = (key : EdgeKey) → HasPlace key → held table key ≡ edge_among tables plan key (item_of key)
 
--- the state with its first requirements and durations alone, so many of each
-abbrev pub first_items : State → ℕ → ℕ → State
-first_items state requirements durations = record {
-  plan = record state.plan { requirements = take requirements state.plan.requirements; uncertains = take durations state.plan.uncertains };
-  vetoes = state.vetoes;
+-- the table holds the edges of a state
+abbrev pub IsTableOf : State → List (Option Edge) → Type 0
+IsTableOf state table = IsFilledBy (tables_under state.vetoes) state.plan table
+
+-- the plan with its first requirements and durations alone, so many of each
+abbrev pub first_items : Lists → ℕ → ℕ → Lists
+first_items plan requirements durations = record plan {
+  requirements = take requirements plan.requirements;
+  uncertains = take durations plan.uncertains;
 }
 
 -- the two keys name one edge

@@ -14,11 +14,11 @@ use uhura_plan::{EventRef, Requirement, Side, Uncertain};
 use uhura_veto::Room;
 
 /// The capacity of an edge that stands for no price. It is more than all prices of a plan together.
-const FIRM_CAPACITY: u64 = 10_000_000_000;
+pub const FIRM_CAPACITY: u64 = 10_000_000_000;
 
-/// The time of the node `to` is at most `bound` after that of the node `from`.
+/// The time of the node `to` is at most `bound` units after that of the node `from`.
 #[derive(Clone, Copy, Debug, PartialEq, Eq)]
-pub(crate) struct Constraint {
+pub struct Constraint {
     pub from: u32,
     pub to: u32,
     pub bound: i64,
@@ -26,7 +26,7 @@ pub(crate) struct Constraint {
 
 impl Constraint {
     /// What a side of a requirement says, where it has a bound.
-    pub(crate) fn of_requirement(side: Side, requirement: &Requirement) -> Option<Constraint>
+    pub fn of_requirement(side: Side, requirement: &Requirement) -> Option<Constraint>
         requires { HasNodes requirement.now }
         ensures constraint { result ≡ requirement_constraint side requirement.now }
         ensures sound { IfSome result IsSoundConstraint }
@@ -44,7 +44,7 @@ impl Constraint {
     }
 
     /// What a side of the duration in this place says.
-    pub(crate) fn of_duration(side: Side, duration: u32, uncertain: &Uncertain) -> Constraint
+    pub fn of_duration(side: Side, duration: u32, uncertain: &Uncertain) -> Constraint
         requires place { duration < 256 }
         requires sound { IsSoundUncertain 512 uncertain.now }
         ensures constraint { result ≡ duration_constraint side duration uncertain.now }
@@ -65,7 +65,7 @@ impl Constraint {
     }
 
     /// The least end of the duration in this place comes no later than its greatest.
-    pub(crate) fn of_order(duration: u32) -> Constraint
+    pub fn of_order(duration: u32) -> Constraint
         requires { duration < 256 }
         ensures constraint { result ≡ order_constraint duration }
         ensures sound { IsSoundConstraint result }

@@ -14,7 +14,7 @@ ghost use Rattle.uhura_worst.specs.Allowed.{Allowed};
 ghost use Rattle.uhura_worst.specs.Cost.{cost};
 ghost use Rattle.uhura_worst.specs.Best.{IsFirst, IsBest, AllowsNothing};
 ghost use Rattle.uhura_worst.specs.Edges.{edge_of};
-ghost use Rattle.uhura_worst.specs.Examples.{evening_drive, dinner_later, squeezed, narrowed_to_nothing, two_sides, by_left, by_right, capped_drive, later_and_cut, two_drives, gap_by, drives_apart, at_zero, dining, dine, stretch, not_after, dinner_at_most, requirement_side, duration_side, pinned, pinned_by};
+ghost use Rattle.uhura_worst.specs.Examples.{evening_drive, dinner_later, squeezed, narrowed_to_nothing, two_sides, by_left, by_right, capped_drive, later_and_cut, two_drives, gap_by, drives_apart, at_zero, drive_to_film, film_at, dining, dine, stretch, not_after, dinner_at_most, requirement_side, duration_side, pinned, pinned_by};
 
 /// Dinner 10 minutes later is allowed and costs 20; 9 minutes aren't enough for the longest drive.
 pub fn longest_drive_counts()
@@ -65,6 +65,13 @@ pub fn drives_vary_apart()
 pub fn whole_difference_counts()
     ensures allowed { Allowed (drives_apart 40) 1 (at_zero [] []) }
     ensures nothing { AllowsNothing (drives_apart 39) }
+{}
+
+/// A film that waits for the longest drive is allowed; one minute less than that leaves nothing, though most drives are
+/// shorter.
+pub fn longest_drive_decides()
+    ensures allowed { Allowed (drive_to_film 50) 1 (film_at 50) }
+    ensures nothing { AllowsNothing (drive_to_film 49) }
 {}
 
 /// The tables of a drive and of a dinner that may come later at a price without limit.

@@ -4,24 +4,29 @@ ghost use Rattle.uhura_plan.specs.declared.key.Item.TheVariants as item;
 ghost use Rattle.uhura_plan.specs.Sound.{IsSoundUncertain};
 ghost use Rattle.uhura_net.specs.Place.{place_number, HasPlace};
 ghost use Rattle.uhura_net.specs.Table.{IsEdgeFor};
-ghost use Rattle.uhura_veto.specs.State.{State};
 ghost use Rattle.uhura_worst.specs.Nodes.{HasNodes};
-ghost use Rattle.uhura_worst.specs.Edges.{requirement_edge, duration_edge};
-ghost use Rattle.uhura_worst.specs.Filled.{IsTableOf, first_items, Puts, PutsItem};
+ghost use Rattle.uhura_worst.specs.Filled.{IsFilledBy, IsTableOf, first_items, Puts, PutsItem};
 
-use crate::edges::{duration_edge, requirement_edge};
+use crate::Tables;
 use uhura_net::{Edge, EdgeTable, PLACES, Place, place_of};
 use uhura_plan::{EdgeKey, Item, Plan, Requirement, Side, SideKey, Uncertain};
 use uhura_veto::Vetoes;
 
-/// Makes each place hold the edge of its key. Besides one clearing of the table it takes time in the size of the plan
-/// alone.
+/// Makes each place hold the edge of its key under these vetoes.
 pub fn fill(table: &mut EdgeTable, plan: &Plan, vetoes: &Vetoes)
     ensures { IsTableOf (record { plan = plan.now; vetoes = vetoes.now }) table.new }
 {
+    fill_by(table, plan, vetoes);
+}
+
+/// Makes each place hold the edge that its key has in these tables. Besides one clearing of the table it takes time in
+/// the size of the plan alone.
+pub fn fill_by<T: Tables>(table: &mut EdgeTable, plan: &Plan, tables: &T)
+    ensures { IsFilledBy (T.tables tables.now) plan.now table.new }
+{
     clear(table);
-    put_requirements(table, plan, vetoes);
-    put_durations(table, plan, vetoes);
+    put_requirements(table, plan, tables);
+    put_durations(table, plan, tables);
 }
 
 // Empties each place.
@@ -34,30 +39,30 @@ fn clear(table: &mut EdgeTable)
 }
 
 // Puts the edges of all requirements into an empty table.
-fn put_requirements(table: &mut EdgeTable, plan: &Plan, vetoes: &Vetoes)
+fn put_requirements<T: Tables>(table: &mut EdgeTable, plan: &Plan, tables: &T)
     requires { (place : ℕ) → place < 9472 → slice_index_or table.old place None ≡ None }
-    ensures { IsTableOf (first_items (record { plan = plan.now; vetoes = vetoes.now }) (length plan.now.requirements) 0) table.new }
+    ensures { IsFilledBy (T.tables tables.now) (first_items plan.now (length plan.now.requirements) 0) table.new }
 {
     for position in 0..plan.requirements() {
-        put_requirement(table, vetoes, plan.requirement(position).unwrap());
+        put_requirement(table, tables, plan.requirement(position).unwrap());
     }
 }
 
 // Puts the edges of all durations into a table of those of the requirements.
-fn put_durations(table: &mut EdgeTable, plan: &Plan, vetoes: &Vetoes)
-    requires { IsTableOf (first_items (record { plan = plan.now; vetoes = vetoes.now }) (length plan.now.requirements) 0) table.old }
-    ensures { IsTableOf (record { plan = plan.now; vetoes = vetoes.now }) table.new }
+fn put_durations<T: Tables>(table: &mut EdgeTable, plan: &Plan, tables: &T)
+    requires { IsFilledBy (T.tables tables.now) (first_items plan.now (length plan.now.requirements) 0) table.old }
+    ensures { IsFilledBy (T.tables tables.now) plan.now table.new }
 {
     for duration in 0..plan.uncertains() {
-        put_duration(table, vetoes, duration, plan.uncertain(duration).unwrap());
+        put_duration(table, tables, duration, plan.uncertain(duration).unwrap());
     }
 }
 
 // Puts the edges of a requirement.
-fn put_requirement(table: &mut EdgeTable, vetoes: &Vetoes, requirement: &Requirement)
+fn put_requirement<T: Tables>(table: &mut EdgeTable, tables: &T, requirement: &Requirement)
     requires slot { requirement.now.slot < 2048 }
     requires nodes { HasNodes requirement.now }
-    ensures { PutsItem (item.Requirement requirement.now.slot) (requirement_edge vetoes.now requirement.now) table.old table.new }
+    ensures { PutsItem (item.Requirement requirement.now.slot) ((T.tables tables.now).of_requirement requirement.now) table.old table.new }
 {
     let item = Item::Requirement(requirement.slot);
     let lower = SideKey {
@@ -68,32 +73,32 @@ fn put_requirement(table: &mut EdgeTable, vetoes: &Vetoes, requirement: &Require
         item,
         side: Side::Upper,
     };
-    put_requirement_edge(table, vetoes, requirement, EdgeKey::Loose(lower));
-    put_requirement_edge(table, vetoes, requirement, EdgeKey::Firm(lower));
-    put_requirement_edge(table, vetoes, requirement, EdgeKey::Loose(upper));
-    put_requirement_edge(table, vetoes, requirement, EdgeKey::Firm(upper));
+    put_requirement_edge(table, tables, requirement, EdgeKey::Loose(lower));
+    put_requirement_edge(table, tables, requirement, EdgeKey::Firm(lower));
+    put_requirement_edge(table, tables, requirement, EdgeKey::Loose(upper));
+    put_requirement_edge(table, tables, requirement, EdgeKey::Firm(upper));
 }
 
 // Puts one of the edges of a requirement.
-fn put_requirement_edge(
+fn put_requirement_edge<T: Tables>(
     table: &mut EdgeTable,
-    vetoes: &Vetoes,
+    tables: &T,
     requirement: &Requirement,
     key: EdgeKey,
 )
     requires nodes { HasNodes requirement.now }
     requires placed { HasPlace key }
-    ensures { Puts key (requirement_edge vetoes.now requirement.now key) table.old table.new }
+    ensures { Puts key ((T.tables tables.now).of_requirement requirement.now key) table.old table.new }
 {
-    let edge = requirement_edge(vetoes, requirement, key);
+    let edge = tables.requirement_edge(requirement, key);
     put(table, key, edge);
 }
 
 // Puts the edges of the duration in this place.
-fn put_duration(table: &mut EdgeTable, vetoes: &Vetoes, duration: u32, uncertain: &Uncertain)
+fn put_duration<T: Tables>(table: &mut EdgeTable, tables: &T, duration: u32, uncertain: &Uncertain)
     requires place { duration < 256 }
     requires sound { IsSoundUncertain 512 uncertain.now }
-    ensures { PutsItem (item.Uncertain duration) (duration_edge vetoes.now duration uncertain.now) table.old table.new }
+    ensures { PutsItem (item.Uncertain duration) ((T.tables tables.now).of_duration duration uncertain.now) table.old table.new }
 {
     let item = Item::Uncertain(duration);
     let lower = SideKey {
@@ -104,17 +109,17 @@ fn put_duration(table: &mut EdgeTable, vetoes: &Vetoes, duration: u32, uncertain
         item,
         side: Side::Upper,
     };
-    put_duration_edge(table, vetoes, duration, uncertain, EdgeKey::Loose(lower));
-    put_duration_edge(table, vetoes, duration, uncertain, EdgeKey::Firm(lower));
-    put_duration_edge(table, vetoes, duration, uncertain, EdgeKey::Loose(upper));
-    put_duration_edge(table, vetoes, duration, uncertain, EdgeKey::Firm(upper));
-    put_duration_edge(table, vetoes, duration, uncertain, EdgeKey::Order(duration));
+    put_duration_edge(table, tables, duration, uncertain, EdgeKey::Loose(lower));
+    put_duration_edge(table, tables, duration, uncertain, EdgeKey::Firm(lower));
+    put_duration_edge(table, tables, duration, uncertain, EdgeKey::Loose(upper));
+    put_duration_edge(table, tables, duration, uncertain, EdgeKey::Firm(upper));
+    put_duration_edge(table, tables, duration, uncertain, EdgeKey::Order(duration));
 }
 
 // Puts one of the edges of the duration in this place.
-fn put_duration_edge(
+fn put_duration_edge<T: Tables>(
     table: &mut EdgeTable,
-    vetoes: &Vetoes,
+    tables: &T,
     duration: u32,
     uncertain: &Uncertain,
     key: EdgeKey,
@@ -122,9 +127,9 @@ fn put_duration_edge(
     requires place { duration < 256 }
     requires sound { IsSoundUncertain 512 uncertain.now }
     requires placed { HasPlace key }
-    ensures { Puts key (duration_edge vetoes.now duration uncertain.now key) table.old table.new }
+    ensures { Puts key ((T.tables tables.now).of_duration duration uncertain.now key) table.old table.new }
 {
-    let edge = duration_edge(vetoes, duration, uncertain, key);
+    let edge = tables.duration_edge(duration, uncertain, key);
     put(table, key, edge);
 }
 

@@ -3,14 +3,18 @@
 //! `worst_case` says what they have to do with proposals.
 #![tactic(auto)]
 
-mod constraint;
+pub mod constraint;
 mod edges;
 pub mod examples;
 mod filling;
 mod loosening;
 mod node;
+mod tables;
+#[cfg(test)]
+mod tests;
 pub mod worst_case;
 
 pub use edges::edge;
-pub use filling::fill;
+pub use filling::{fill, fill_by};
 pub use loosening::Loosening;
+pub use tables::Tables;

@@ -55,7 +55,8 @@ impl Loosening {
 
     /// The units of a side, 0 where none were added.
     pub fn units(&self, key: SideKey) -> u64
-        ensures { result ≡ units_in self.now key }
+        ensures units { result ≡ units_in self.now key }
+        ensures most { result ≤ 10_000_000_000_000 }
     {
         units_of(self.pairs.as_slice(), key)
     }

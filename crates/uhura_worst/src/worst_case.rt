@@ -1,7 +1,7 @@
 //! The worst case, both ways. A proposal meets the requirements whatever the durations left exactly where times of all
 //! nodes meet the loosened edges: those of its events, with the two ends of each duration at the least and at the
 //! greatest length left to it. Each contract is a law over the definitions, and the bodies are empty.
-ghost use Rattle.std.specs.Prelude.{ℕ, ◌≤◌, ℤ, ◌↔◌, List, IsFalse};
+ghost use Rattle.std.specs.Prelude.{◌≡◌, ℕ, ◌≤◌, ℤ, ◌↔◌, List, IsFalse};
 ghost use Rattle.uhura_plan.specs.Lists.{Lists};
 ghost use Rattle.uhura_plan.specs.Sound.{IsSound};
 ghost use Rattle.uhura_choice.specs.declared.prefix.Pick.{Pick};
@@ -49,4 +49,10 @@ pub fn allowed_proposals_leave_no_negative_walk()
 pub fn times_that_keep_firm_edges_are_allowed()
     ensures { (state : State) (k : ℕ) (branch : List Pick) (times : ℕ → ℤ) → IsSound state.plan → 1 ≤ k → IsBranch state.plan.choices branch → IsFalse (is_denied state.vetoes branch) →
         KeepsFirmEdges state k branch times → Allowed state k (proposal_at state.plan k branch times) }
+{}
+
+/// What is allowed in parts is allowed in whole units: since bounds are whole, the times may be rounded down, in the same
+/// branch.
+pub fn allowed_parts_leave_an_allowed_whole()
+    ensures { (state : State) (k : ℕ) (q : Proposal) → IsSound state.plan → Allowed state k q → (whole : Proposal) × Allowed state 1 whole × (whole.branch ≡ q.branch) }
 {}

@@ -1,3 +1,6 @@
+use Rattle.std.proofs.Common.{sym, subst}
+use Rattle.uhura_worst.specs.Filled.{IsTableOf}
+use Rattle.uhura_session.specs.Free.{free}
 use Rattle.uhura_session.specs.Branches.{IsBestOf}
 use Rattle.uhura_session.proofs.FirstCheapest.{IsUpTo, best-more, best-next, best-last}
 use Rattle.uhura_session.proofs.Ranks.{rank-falls}
@@ -5,12 +8,14 @@ use Rattle.uhura_session.proofs.branches.best_branch.Goals as goal
 
 pub walk-preserved : goal.walk-preserved
 walk-preserved c =
-    let plan = c.args.plan.now in
+    let state = free c.args.plan.now in
     let branch = c.walk.branch in
-    let up_to : IsBestOf (IsUpTo branch) plan c.in_ok-best.best = best-more plan branch c.walk.best c.in_ok-best.best c.walk.invariant.so_far c.in_ok-best.ensures in
+    let best = c.better-best.result in
+    let up_to : IsBestOf (IsUpTo branch) state best = best-more state branch c.walk.best best c.walk.invariant.so_far c.better-best.ensures.chosen in
     record {
       is_branch = c.in-Some.ensures.is_branch;
-      so_far = best-next plan branch c.in-Some.later c.in_ok-best.best c.walk.invariant.is_branch c.in-Some.ensures up_to;
+      so_far = best-next state branch c.in-Some.later best c.walk.invariant.is_branch c.in-Some.ensures up_to;
+      edges = subst (IsTableOf state) (sym c.better-best.ensures.edges) c.walk.invariant.edges;
     }
 
 pub walk-smaller : goal.walk-smaller
@@ -18,7 +23,8 @@ walk-smaller c = rank-falls c.args.plan.now.choices c.walk.branch c.in-Some.late
 
 pub returns-in_default : goal.returns-in_default
 returns-in_default c =
-    let plan = c.args.plan.now in
+    let state = free c.args.plan.now in
     let branch = c.walk.branch in
-    let up_to : IsBestOf (IsUpTo branch) plan c.in_ok-best.best = best-more plan branch c.walk.best c.in_ok-best.best c.walk.invariant.so_far c.in_ok-best.ensures in
-    best-last plan branch c.in_ok-best.best c.walk.invariant.is_branch c.in_default.ensures up_to
+    let best = c.better-best.result in
+    let up_to : IsBestOf (IsUpTo branch) state best = best-more state branch c.walk.best best c.walk.invariant.so_far c.better-best.ensures.chosen in
+    best-last state branch best c.walk.invariant.is_branch c.in_default.ensures up_to

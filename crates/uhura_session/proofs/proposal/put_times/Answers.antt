@@ -1,12 +1,10 @@
-use Rattle.std.proofs.Common.{rules, subst, ◌≡◌, ◌++◌, ◌+◌, [], ◌∷◌, drop, ap, sym, arith}
-use Rattle.std.specs.Prelude.{slice_get, Some, None, codes}
-use Rattle.std.proofs.lemmas.Int.{ints}
-use mir.Val.{SFits, to_z, of_z}
-use mir.Syntax.{w64}
+use Rattle.std.proofs.Common.{subst, ◌≡◌, ◌++◌, ◌+◌, [], ◌∷◌, drop, ap, ◌∙◌, sym, slice_index_or, arith}
+use Rattle.std.specs.Prelude.{slice_get, Some, None, codes, pos, unwrap_or}
+use Rattle.std.proofs.lemmas.Option.{unwrap_or-slice_get}
 use Rattle.uhura_text.specs.Number.{spelling}
 use Rattle.uhura_command.specs.Written.{line_of}
+use Rattle.uhura_relax.specs.Schedule.{scheduled}
 use Rattle.uhura_session.specs.ProposalText.{time_lines}
-use Rattle.uhura_session.specs.Schedule.{time_at}
 use Rattle.uhura_session.proofs.Walk.{left_at, ended_at, extended}
 use Rattle.uhura_session.proofs.proposal.put_times.Goals as goal
 use Rattle.uhura_session.proofs.proposal.put_times.Goals.{in-Some+in_ok-put_time, in_default}
@@ -14,15 +12,15 @@ use Rattle.uhura_session.proofs.proposal.put_times.Goals.{in-Some+in_ok-put_time
 pub loop-event-preserved : goal.loop-event-preserved
 loop-event-preserved c =
     let names = c.args.plan.now.events in
-    let times = time_at c.args.times.now in
+    let times = scheduled c.args.schedule.now in
     let e = c.loop-event.event in
     elim c.match-event.branch [
       | in-Some+in_ok-put_time w ↦
           let there : slice_get names e ≡ Some w.in-Some.name = sym w.in-Some.ensures in
-          let fits : SFits w64 (times e) = search rules in
-          let read : to_z w64 (of_z w64 (times e)) ≡ times e = omega (arith, ints) in
+          let read : w.unwrap_or.result ≡ slice_index_or c.args.schedule.now e 0 =
+          w.unwrap_or.ensures ∙ (ap (λ o. unwrap_or o 0) w.time.ensures ∙ unwrap_or-slice_get c.args.schedule.now e 0) in
           let written : w.put_time.new.text.items ≡ c.loop-event.text.items ++ line_of (codes "at" ∷ w.in-Some.name ∷ spelling (times e) ∷ []) =
-          subst (λ t. w.put_time.new.text.items ≡ c.loop-event.text.items ++ line_of (codes "at" ∷ w.in-Some.name ∷ spelling t ∷ [])) read w.in_ok-put_time.ensures in
+          subst (λ t. w.put_time.new.text.items ≡ c.loop-event.text.items ++ line_of (codes "at" ∷ w.in-Some.name ∷ spelling (pos t) ∷ [])) read w.in_ok-put_time.ensures in
           rw w.text-is
           (extended _ _ (line_of (codes "at" ∷ w.in-Some.name ∷ spelling (times e) ∷ [])) (time_lines times (e + 1) (drop (e + 1) names)) (time_lines times e (drop e names)) _
           written

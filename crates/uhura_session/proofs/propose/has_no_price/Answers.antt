@@ -5,8 +5,8 @@ use Rattle.uhura_session.specs.Answers.{is_unpriced}
 use Rattle.uhura_session.proofs.Walk.{left_at}
 use Rattle.uhura_session.proofs.propose.has_no_price.Goals as goal
 
-pub returns-then-not-is_unpriced : goal.returns-then-not-is_unpriced
-returns-then-not-is_unpriced c =
+pub returns-then-not-is_unpriced-clause-test : goal.returns-then-not-is_unpriced-clause-test
+returns-then-not-is_unpriced-clause-test c =
     let reqs = c.args.plan.now.requirements in
     let i = c.loop-position.position in
     let r = c.unwrap-requirement.result.now in

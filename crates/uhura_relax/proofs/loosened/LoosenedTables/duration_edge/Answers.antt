@@ -1,0 +1,12 @@
+use Rattle.std.proofs.Common.{ap, ◌∙◌}
+use Rattle.uhura_net.specs.Place.{place_number, is_loose_key}
+use Rattle.uhura_net.proofs.Rows.{is_loose-place_number}
+use Rattle.uhura_relax.proofs.loosened.LoosenedTables.duration_edge.Goals as goal
+
+pub returns-in-Firm-clause-fits : goal.returns-in-Firm-clause-fits
+returns-in-Firm-clause-fits c = λ placed.
+    c.turned_edge.ensures.fits (place_number c.args.key) (is_loose-place_number c.args.key placed ∙ ap is_loose_key c.in-Firm.is)
+
+pub returns-in-Order-clause-fits : goal.returns-in-Order-clause-fits
+returns-in-Order-clause-fits c = λ placed.
+    c.turned_edge-in-Order.ensures.fits (place_number c.args.key) (is_loose-place_number c.args.key placed ∙ ap is_loose_key c.in-Order.is)

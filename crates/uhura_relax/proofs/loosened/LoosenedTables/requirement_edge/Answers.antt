@@ -1,0 +1,8 @@
+use Rattle.std.proofs.Common.{ap, ◌∙◌}
+use Rattle.uhura_net.specs.Place.{place_number, is_loose_key}
+use Rattle.uhura_net.proofs.Rows.{is_loose-place_number}
+use Rattle.uhura_relax.proofs.loosened.LoosenedTables.requirement_edge.Goals as goal
+
+pub returns-in-Some-clause-fits : goal.returns-in-Some-clause-fits
+returns-in-Some-clause-fits c = λ placed.
+    c.turned_edge.ensures.fits (place_number c.args.key) (is_loose-place_number c.args.key placed ∙ ap is_loose_key c.in-Firm.is)

@@ -1,0 +1,14 @@
+//! The earliest schedule of a branch with some sides loosened or narrowed: what it is, and why there may be none, stands
+//! in `specs/Schedule.antt`, and the edges whose times it takes in `specs/Loosened.antt`.
+#![tactic(auto)]
+
+mod loosened;
+mod refusal;
+mod relaxing;
+mod schedule;
+#[cfg(test)]
+mod tests;
+
+pub use refusal::RelaxRefusal;
+pub use relaxing::earliest;
+pub use schedule::Schedule;

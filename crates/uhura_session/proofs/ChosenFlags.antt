@@ -1,0 +1,201 @@
+-- The flags of a branch, and the edges that they choose.
+use Rattle.std.proofs.Common.{◌≡◌, ◌≢◌, ℕ, ◌+◌, ◌<◌, ◌≤◌, Bool, true, false, List, length, set, get_or, Option, None, Some, slice_get, Contains, AllPairs, inl, inr, refl, sym, ap, subst, ◌∙◌, arith, get_or-set_same, get_or-set_other, length-set}
+use Rattle.std.specs.Prelude.{if◌then◌else◌, option_and_then}
+use Rattle.std.specs.Option.{option_map_or}
+use Rattle.std.proofs.Math.ListN.{get_or-eq_default}
+use Rattle.std.proofs.lemmas.Bool.{cases_lt}
+use Rattle.std.proofs.lemmas.List.{get_or-map, length-map}
+use Rattle.std.proofs.lemmas.Option.{slice_get_within, get_or_from_slice_get, slice_get-get_or}
+use Rattle.uhura_plan.specs.declared.key.Side.{Side}
+use Rattle.uhura_plan.specs.declared.key.Side.TheVariants.{Lower, Upper}
+use Rattle.uhura_plan.specs.declared.key.Item.{Item}
+use Rattle.uhura_plan.specs.declared.key.Item.TheVariants as item
+use Rattle.uhura_plan.specs.declared.key.EdgeKey.{EdgeKey}
+use Rattle.uhura_plan.specs.declared.key.EdgeKey.TheVariants.{Loose, Firm, Order}
+use Rattle.uhura_plan.specs.declared.requirement.Requirement.{Requirement}
+use Rattle.uhura_plan.specs.Lists.{slots}
+use Rattle.uhura_plan.specs.Find.{requirement_in}
+use Rattle.uhura_choice.specs.declared.prefix.Pick.{Pick}
+use Rattle.uhura_choice.specs.Branch.{holds}
+use Rattle.uhura_net.specs.declared.edge.Edge.{Edge}
+use Rattle.uhura_net.specs.Edges.{chosen_edges}
+use Rattle.uhura_net.specs.Place.{first_place, firm_row, place_number, HasPlace}
+use Rattle.uhura_veto.specs.State.{State}
+use Rattle.uhura_worst.specs.Edges.{requirement_edge, edge_of}
+use Rattle.uhura_worst.specs.Filled.{held, IsTableOf}
+use Rattle.uhura_worst.proofs.SoundItems.{Contains-found}
+use Rattle.uhura_session.specs.Chosen.{is_followed, AreFollowed, flag_of, firm_key, is_firm_of_duration, HasFixedFlags, ChoosesSlot, HasFlagsOf}
+use Rattle.uhura_session.proofs.Places.{slot-found}
+
+-- the flags of the places so far say which edges are durations' and not loose
+abbrev pub AreFixedBelow : ℕ → List Bool → Type 0
+AreFixedBelow number chosen = (key : EdgeKey) → HasPlace key → place_number key < number → flag_of chosen key ≡ is_firm_of_duration key
+
+-- all places
+pub fixed-all : (chosen : List Bool) → length chosen ≡ 9472 → AreFixedBelow 9472 chosen → HasFixedFlags chosen
+fixed-all chosen places all = record {
+  places = places;
+  loose = λ key placed. all (Loose key) placed (below (Loose key) placed);
+  firm = λ d side placed. all (firm_key (item.Uncertain d) side) placed (below (firm_key (item.Uncertain d) side) placed);
+  order = λ d placed. all (Order d) placed (below (Order d) placed);
+}
+  where
+    below_rows : (of : Item) (row : ℕ) → HasPlace (Firm (record { item = of; side = Lower })) → row < 4 → first_place of + row < 9472
+    below_rows (item.Requirement slot) row placed small = omega arith
+    below_rows (item.Uncertain d) row placed small = omega arith
+
+    below : (key : EdgeKey) → HasPlace key → place_number key < 9472
+    below (Loose key) placed = elim key.side as (λ side. place_number (Loose (record { item = key.item; side = side })) < 9472) [
+      | Lower ↦ below_rows key.item 0 placed (omega arith)
+      | Upper ↦ below_rows key.item 2 placed (omega arith)
+    ]
+    below (Firm key) placed = elim key.side as (λ side. place_number (Firm (record { item = key.item; side = side })) < 9472) [
+      | Lower ↦ below_rows key.item 1 placed (omega arith)
+      | Upper ↦ below_rows key.item 3 placed (omega arith)
+    ]
+    below (Order d) placed = omega arith
+
+-- a write at a firm edge of a requirement leaves each other edge
+left : (old : List Bool) (slot : ℕ) (side : Side) (active : Bool) (key : EdgeKey) → place_number key ≢ place_number (firm_key (item.Requirement slot) side) →
+    flag_of (set old (place_number (firm_key (item.Requirement slot) side)) active) key ≡ flag_of old key
+left old slot side active key other = get_or-set_other old (place_number (firm_key (item.Requirement slot) side)) (place_number key) active false other
+
+-- it is elsewhere than a loose edge, an order edge and a firm edge of another item
+apart-loose : (slot : ℕ) (side other : Side) (of : Item) → slot < 2048 → place_number (Loose (record { item = of; side = other })) ≢ place_number (firm_key (item.Requirement slot) side)
+apart-loose slot Lower Lower (item.Requirement s) placed = λ same. omega arith
+apart-loose slot Lower Upper (item.Requirement s) placed = λ same. omega arith
+apart-loose slot Upper Lower (item.Requirement s) placed = λ same. omega arith
+apart-loose slot Upper Upper (item.Requirement s) placed = λ same. omega arith
+apart-loose slot Lower Lower (item.Uncertain d) placed = λ same. omega arith
+apart-loose slot Lower Upper (item.Uncertain d) placed = λ same. omega arith
+apart-loose slot Upper Lower (item.Uncertain d) placed = λ same. omega arith
+apart-loose slot Upper Upper (item.Uncertain d) placed = λ same. omega arith
+
+firm_row-small : (side : Side) → firm_row side ≤ 3
+firm_row-small Lower = omega arith
+firm_row-small Upper = omega arith
+
+apart-duration : (slot : ℕ) (side other : Side) (d : ℕ) → slot < 2048 → place_number (firm_key (item.Uncertain d) other) ≢ place_number (firm_key (item.Requirement slot) side)
+apart-duration slot side other d placed = λ same. omega (arith, firm_row-small side)
+
+apart-order : (slot : ℕ) (side : Side) (d : ℕ) → slot < 2048 → place_number (Order d) ≢ place_number (firm_key (item.Requirement slot) side)
+apart-order slot side d placed = λ same. omega (arith, firm_row-small side)
+
+apart-slot : (slot other : ℕ) (side one : Side) → other ≢ slot → place_number (firm_key (item.Requirement other) one) ≢ place_number (firm_key (item.Requirement slot) side)
+apart-slot slot other side one differs = λ same. differs (omega (arith, same, firm_row-small side, firm_row-small one))
+
+apart-side : (slot : ℕ) → place_number (firm_key (item.Requirement slot) Lower) ≢ place_number (firm_key (item.Requirement slot) Upper)
+apart-side slot = λ same. omega arith
+
+-- fixed flags stay fixed
+fixed-left : (old : List Bool) (slot : ℕ) (side : Side) (active : Bool) → slot < 2048 → HasFixedFlags old → HasFixedFlags (set old (place_number (firm_key (item.Requirement slot) side)) active)
+fixed-left old slot side active placed fixed = record {
+  places = length-set old (place_number (firm_key (item.Requirement slot) side)) active ∙ fixed.places;
+  loose = λ key key_placed. left old slot side active (Loose key) (apart-loose slot side key.side key.item placed) ∙ fixed.loose key key_placed;
+  firm = λ d one d_placed. left old slot side active (firm_key (item.Uncertain d) one) (apart-duration slot side one d placed) ∙ fixed.firm d one d_placed;
+  order = λ d d_placed. left old slot side active (Order d) (apart-order slot side d placed) ∙ fixed.order d d_placed;
+}
+
+-- the two sides of a requirement are written
+pub chooses-slot : (slot : ℕ) (active : Bool) (old mid new : List Bool) → length old ≡ 9472 → slot < 2048 →
+    mid ≡ set old (place_number (firm_key (item.Requirement slot) Lower)) active → new ≡ set mid (place_number (firm_key (item.Requirement slot) Upper)) active → ChoosesSlot slot active old new
+chooses-slot slot active old mid new places placed first second = record {
+  own = own;
+  others = λ other side differs.
+      at second (firm_key (item.Requirement other) side)
+      ∙ left mid slot Upper active (firm_key (item.Requirement other) side) (apart-slot slot other Upper side differs)
+      ∙ at first (firm_key (item.Requirement other) side)
+      ∙ left old slot Lower active (firm_key (item.Requirement other) side) (apart-slot slot other Lower side differs);
+  fixed = λ fixed. subst HasFixedFlags (sym second) (fixed-left mid slot Upper active placed (subst HasFixedFlags (sym first) (fixed-left old slot Lower active placed fixed)));
+}
+  where
+    at : {xs ys : List Bool} → xs ≡ ys → (key : EdgeKey) → flag_of xs key ≡ flag_of ys key
+    at same key = ap (λ (xs : List Bool). flag_of xs key) same
+
+    mid_places : length mid ≡ 9472
+    mid_places = ap (λ (xs : List Bool). length xs) first ∙ length-set old (place_number (firm_key (item.Requirement slot) Lower)) active ∙ places
+
+    own : (side : Side) → flag_of new (firm_key (item.Requirement slot) side) ≡ active
+    own Lower =
+        at second (firm_key (item.Requirement slot) Lower)
+        ∙ left mid slot Upper active (firm_key (item.Requirement slot) Lower) (apart-side slot)
+        ∙ at first (firm_key (item.Requirement slot) Lower)
+        ∙ get_or-set_same old (place_number (firm_key (item.Requirement slot) Lower)) active false (omega (arith, places))
+    own Upper =
+        at second (firm_key (item.Requirement slot) Upper)
+        ∙ get_or-set_same mid (place_number (firm_key (item.Requirement slot) Upper)) active false (omega (arith, mid_places))
+
+-- the flags of the first requirements
+abbrev pub HasFlagsBelow : ℕ → List Requirement → List Pick → List Bool → Type 0
+HasFlagsBelow count requirements branch chosen = (k : ℕ) (r : Requirement) (side : Side) → k < count → slice_get requirements k ≡ Some r →
+    flag_of chosen (firm_key (item.Requirement r.slot) side) ≡ holds r.guard branch
+
+-- two requirements have two slots
+slots-differ : (requirements : List Requirement) (i j : ℕ) (a b : Requirement) → AllPairs ◌≢◌ (slots requirements) → slice_get requirements i ≡ Some a → slice_get requirements j ≡ Some b → i < j → a.slot ≢ b.slot
+slots-differ requirements i j a b distinct is_a is_b before same =
+    let inside : j < length requirements = slice_get_within requirements j b is_b in
+    let first : get_or (slots requirements) i 0 ≡ a.slot =
+    get_or-map (λ (r : Requirement). r.slot) requirements i a 0 (omega (arith, before, inside)) ∙ ap (λ (r : Requirement). r.slot) (get_or_from_slice_get requirements i a a is_a) in
+    let second : get_or (slots requirements) j 0 ≡ b.slot =
+    get_or-map (λ (r : Requirement). r.slot) requirements j b 0 inside ∙ ap (λ (r : Requirement). r.slot) (get_or_from_slice_get requirements j b b is_b) in
+    distinct i j 0 before (omega (arith, inside, length-map requirements (λ (r : Requirement). r.slot))) (first ∙ same ∙ sym second)
+
+-- one requirement more
+pub flags-more : (requirements : List Requirement) (branch : List Pick) (i : ℕ) (own : Requirement) (old new : List Bool) → AllPairs ◌≢◌ (slots requirements) → slice_get requirements i ≡ Some own →
+    HasFlagsBelow i requirements branch old → ChoosesSlot own.slot (holds own.guard branch) old new → HasFlagsBelow (i + 1) requirements branch new
+flags-more requirements branch i own old new distinct is so_far chooses k r side below at =
+    elim (cases_lt k i) [
+      | inl before ↦ chooses.others r.slot side (slots-differ requirements k i r own distinct at is before) ∙ so_far k r side before at
+      | inr behind ↦
+          let last : k ≡ i = omega (arith, below, behind) in
+          let same : own ≡ r = let there : Some own ≡ Some r = sym is ∙ ap (slice_get requirements) (sym last) ∙ at in cc in
+          let P : Requirement → Type 0 = λ q. flag_of new (firm_key (item.Requirement q.slot) side) ≡ holds q.guard branch in
+          subst P same (chooses.own side)
+    ]
+
+-- all requirements
+pub flags-all : (requirements : List Requirement) (branch : List Pick) (chosen : List Bool) → HasFlagsBelow (length requirements) requirements branch chosen → HasFlagsOf requirements branch chosen
+flags-all requirements branch chosen all r side member =
+    all member.0 r side member.1 (slice_get-get_or requirements member.0 r member.1 ∙ ap (λ (q : Requirement). Some q) member.2)
+
+-- a choice between nothing and nothing
+nothing_either : (b : Bool) (of : Option Edge) → of ≡ None → (if b then of else None) ≡ None
+nothing_either true of none = none
+nothing_either false of none = refl
+
+-- past the last place there is no edge
+pub chosen-past : (table : List (Option Edge)) (chosen : List Bool) (place : ℕ) → length chosen ≡ 9472 → 9472 ≤ place → chosen_edges table chosen place ≡ None
+chosen-past table chosen place places past =
+    ap (λ (b : Bool). if b then get_or table place None else None) (get_or-eq_default chosen false (omega (arith, places, past)))
+
+module _ (state : State) (branch : List Pick) (table : List (Option Edge)) (chosen : List Bool) (is_table : IsTableOf state table) (fixed : HasFixedFlags chosen) (flags : HasFlagsOf state.plan.requirements branch chosen) where
+  -- the edge that is chosen by a flag
+  by_flag : (key : EdgeKey) (flag : Bool) → HasPlace key → flag_of chosen key ≡ flag → chosen_edges table chosen (place_number key) ≡ (if flag then edge_of state key else None)
+  by_flag key flag placed is =
+      ap (λ (b : Bool). if b then held table key else None) is ∙ ap (λ (edge : Option Edge). if flag then edge else None) (is_table key placed)
+
+  of_requirement : (slot : ℕ) (side : Side) (found : Option Requirement) → slot < 2048 → requirement_in state.plan slot ≡ found →
+      chosen_edges table chosen (place_number (firm_key (item.Requirement slot) side)) ≡
+      (if option_map_or (λ (r : Requirement). holds r.guard branch) found false then option_and_then (λ (r : Requirement). requirement_edge state.vetoes r (firm_key (item.Requirement slot) side)) found else None)
+  of_requirement slot side None placed found =
+      let none : held table (firm_key (item.Requirement slot) side) ≡ None =
+      is_table (firm_key (item.Requirement slot) side) placed ∙ ap (option_and_then (λ (r : Requirement). requirement_edge state.vetoes r (firm_key (item.Requirement slot) side))) found in
+      nothing_either (flag_of chosen (firm_key (item.Requirement slot) side)) (held table (firm_key (item.Requirement slot) side)) none
+  of_requirement slot side (Some r) placed found =
+      let member : Contains state.plan.requirements r = Contains-found _ state.plan.requirements r found in
+      let flag : flag_of chosen (firm_key (item.Requirement slot) side) ≡ holds r.guard branch =
+      ap (λ (n : ℕ). flag_of chosen (firm_key (item.Requirement n) side)) (sym (slot-found state.plan slot r found)) ∙ flags r side member in
+      by_flag (firm_key (item.Requirement slot) side) (holds r.guard branch) placed flag
+      ∙ ap (λ (o : Option Requirement). if holds r.guard branch then option_and_then (λ (q : Requirement). requirement_edge state.vetoes q (firm_key (item.Requirement slot) side)) o else None) found
+
+  of_side : (of : Item) (side : Side) → HasPlace (firm_key of side) →
+      chosen_edges table chosen (place_number (firm_key of side)) ≡ (if is_followed state.plan branch (firm_key of side) then edge_of state (firm_key of side) else None)
+  of_side (item.Uncertain d) side placed = by_flag (firm_key (item.Uncertain d) side) true placed (fixed.firm d side placed)
+  of_side (item.Requirement slot) side placed =
+      of_requirement slot side (requirement_in state.plan slot) placed refl
+
+  -- the flags choose the edges that are followed
+  pub chosen-followed : AreFollowed state branch (chosen_edges table chosen)
+  chosen-followed (Loose key) placed = by_flag (Loose key) false placed (fixed.loose key placed)
+  chosen-followed (Firm key) placed = of_side key.item key.side placed
+  chosen-followed (Order d) placed = by_flag (Order d) true placed (fixed.order d placed)
