@@ -41,8 +41,6 @@ key_at place below =
           let row : place % 4 < 4 = omega arith in
           at_place place (4 * (place / 4) + place % 4) (omega arith) (in_row (Requirement (place / 4)) (place % 4) slot row)
       | inr behind ↦
-          let d : ℕ = (place - 8192) / 5 in
-          let row : ℕ = (place - 8192) % 5 in
           let inside : (place - 8192) / 5 < 256 = omega (arith, below, behind) in
           let small : (place - 8192) % 5 < 5 = omega arith in
           of_duration place ((place - 8192) / 5) ((place - 8192) % 5) inside small (omega (arith, behind))

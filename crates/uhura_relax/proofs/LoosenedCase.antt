@@ -61,7 +61,7 @@ worst_case-met plan q edges times sound placed meets = record {
       meets (place_number (Order d)) (loosened_edge 1 0 (order_constraint d)) (duration-there plan q edges (Order d) d u sound placed is (uncertain-placed plan d u sound is) refl);
 }
 
--- The other way: what is mapped under a test holds what the values hold,
+-- the other way: what is mapped under a test has what holds behind the map,
 mapped-holds : {X Y : Type 0} (P : Y → Type 0) (f : X → Y) (b : Bool) (o : Option X) (y : Y) → (b ≡ true → IfSome o (λ x. P (f x))) → (if b then option_map f o else None) ≡ Some y → P y
 mapped-holds P f false o y holds is = absurd (let never : ⊥ = cc in never)
 mapped-holds P f true None y holds is = absurd (let never : ⊥ = cc in never)
@@ -81,7 +81,7 @@ by_requirement plan q times (Firm key) edge slot (Some r) worst of found is =
     mapped-holds (Keeps times) (loosened_edge 1 (q.units key)) (holds r.guard q.branch) (requirement_constraint key.side r) edge
     (λ active. subst (λ (units : ℕ). IfSome (requirement_constraint key.side r) (λ c. Keeps times (loosened_edge 1 units c))) (sym same) (worst.requirements key.side r member active)) is
 
--- and one of a duration.
+-- and one of a duration
 by_duration : (plan : Lists) (q : Proposal) (times : ℕ → ℤ) (key : EdgeKey) (edge : Edge) (d : ℕ) (found : Option Uncertain) → MeetsWorstCase plan 1 q times → item_of key ≡ item.Uncertain d → slice_get plan.uncertains d ≡ found →
     option_and_then (λ (u : Uncertain). narrowed_duration q.units d u key) found ≡ Some edge → Keeps times edge
 by_duration plan q times key edge d None worst of found is = absurd (let never : ⊥ = cc in never)
@@ -94,7 +94,7 @@ by_duration plan q times (Firm key) edge d (Some u) worst of found is =
     subst (Keeps times) (same_Some (loosened_edge 1 (q.units key) (duration_constraint key.side d u)) edge is)
     (subst (λ (units : ℕ). Keeps times (loosened_edge 1 units (duration_constraint key.side d u))) (sym same) (worst.durations key.side d u found))
 
--- So times that meet the worst case meet the loosened edges.
+-- so times that meet the worst case meet the loosened edges.
 pub edges-met : (plan : Lists) (q : Proposal) (edges : Edges) (times : ℕ → ℤ) → AreLoosenedEdges plan q.branch q.units edges → MeetsWorstCase plan 1 q times → Meets edges times
 edges-met plan q edges times loosened worst place edge is =
     let found : (key : EdgeKey) × HasPlace key × (place ≡ place_number key) × (loosened_edge_of plan q.branch q.units key ≡ Some edge) = loosened place edge is in
