@@ -8,15 +8,13 @@ use Rattle.uhura_plan.specs.Sound.{IsSound}
 use Rattle.uhura_choice.specs.declared.prefix.Pick.{Pick}
 use Rattle.uhura_choice.specs.Branch.{picked_cost}
 use Rattle.uhura_net.specs.declared.place.Place.{Place}
-use Rattle.uhura_veto.specs.Room.{requirement_room, duration_room, IsWithinRoom}
-use Rattle.uhura_veto.specs.declared.room.Room.{Room}
-use Rattle.uhura_veto.specs.declared.room.Room.TheVariants.{Units, Unlimited}
+use Rattle.uhura_veto.specs.Room.{requirement_room, duration_room}
 use Rattle.uhura_worst.specs.Proposal.{Proposal, Meets}
 use Rattle.uhura_worst.specs.Allowed.{Allowed}
 use Rattle.uhura_worst.specs.Cost.{cost}
 use Rattle.uhura_worst.specs.WorstCase.{proposal_at}
 use Rattle.uhura_worst.specs.Best.{IsBest, AllowsNothing}
-use Rattle.uhura_worst.proofs.PassedUnits.{keeping-allowed}
+use Rattle.uhura_worst.proofs.PassedUnits.{zero-within, keeping-allowed}
 use Rattle.uhura_relax.specs.Schedule.{proposal_with, scheduled, IsEarliestSchedule, HasNoSchedule}
 use Rattle.uhura_session.specs.Free.{free}
 use Rattle.uhura_session.specs.Unpriced.{IsUnpriced}
@@ -36,10 +34,6 @@ open_times_meet plan branch unpriced opens =
 pub open_scheduled : (plan : Lists) (branch : List Pick) (cycle : List Place) → IsUnpriced plan → IsOpen (free plan) branch → HasNoSchedule plan branch [] cycle → ⊥
 open_scheduled plan branch cycle unpriced opens no_schedule = no_schedule.none opens.times (open_times_meet plan branch unpriced opens)
 
-no_units_fit : (k : ℕ) (room : Room) → IsWithinRoom k room 0
-no_units_fit k (Units most) = omega arith
-no_units_fit k Unlimited = tt
-
 -- a schedule of an open branch, with nothing loosened or narrowed, is allowed
 schedule_allowed : (plan : Lists) (branch : List Pick) (times : ℕ → ℤ) → IsSound plan → IsOpen (free plan) branch →
     Meets plan 1 (proposal_with branch [] times) → Allowed (free plan) 1 (proposal_with branch [] times)
@@ -47,9 +41,9 @@ schedule_allowed plan branch times sound opens meets = record {
   scale = lit≤ tt;
   branch = opens.is_branch;
   not_denied = opens.not_denied;
-  loosened_within = λ side r member. no_units_fit 1 (requirement_room [] side r);
+  loosened_within = λ side r member. zero-within 1 (requirement_room [] side r);
   loosened_active = λ side r member inactive. refl;
-  narrowed_within = λ side d u is. no_units_fit 1 (duration_room [] d side u);
+  narrowed_within = λ side d u is. zero-within 1 (duration_room [] d side u);
   ranges_left = whole_ranges plan branch times sound;
   meets = meets;
 }

@@ -67,8 +67,8 @@ fn put_answer(
     }
 }
 
-/// The earliest schedule of an open branch, with nothing loosened or narrowed. There is one: times that keep the edges of
-/// sides without a price leave no units to the sides.
+/// The earliest schedule of an open branch, with nothing loosened or narrowed. There is one: without prices an edge that
+/// isn't loose has the bound of its side, so times that keep such edges pass no bound.
 fn schedule_branch(alloc: Global, plan: &Plan, branch: &Branch) -> Result<Schedule, AllocError>
     requires unpriced { IsUnpriced plan.now }
     requires open_branch { IsOpen (free plan.now) branch.now }

@@ -59,7 +59,8 @@ passed-within k times (Units most) c keeps =
     let kept : KeepsAt k times firm = keeps firm refl in
     excess-le ((times c.to -ℤ times c.from) -ℤ (pos k *ℤ c.bound)) (k * most) (omega (arith, ints, kept, scaled-plus k c.bound (pos most)))
 
-zero-within : (k : ℕ) (room : Room) → IsWithinRoom k room 0
+-- no units lie within each room
+pub zero-within : (k : ℕ) (room : Room) → IsWithinRoom k room 0
 zero-within k Unlimited = tt
 zero-within k (Units most) = omega arith
 
