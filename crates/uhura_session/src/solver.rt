@@ -1,4 +1,5 @@
-//! The solver: a question fills it once, and then it is asked about one branch after another.
+//! The solver: a question fills it once, and then it is asked about one branch after another, and last for the schedule of
+//! the best.
 ghost use Rattle.std.specs.Prelude.{◌≡◌, List, [], MatchBool};
 ghost use Rattle.uhura_veto.specs.declared.veto.Veto.{Veto};
 ghost use Rattle.uhura_veto.specs.State.{State};
@@ -18,7 +19,7 @@ use uhura_veto::Vetoes;
 use uhura_worst::{Loosening, fill};
 
 /// The edges of the worst case of a plan, flags that choose those of a branch, and room to search for times that keep
-/// them and for the earliest schedule. Only `new` and a schedule that is found take memory.
+/// them and for the earliest schedule. Only `new` and what `schedule` answers take memory.
 #[derive(Drop)]
 pub struct Solver {
     table: EdgeTable,
