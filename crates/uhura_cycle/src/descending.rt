@@ -36,13 +36,15 @@ pub(crate) fn descend(
     times.fill(0);
     backs.fill(None);
     let lowest = NODES as i64 * least;
+    let mut backward = false;
     for _pass in 0..NODES {
-        let Some(node) = pass(steps, lowest, times, backs) else {
+        let Some(node) = pass(steps, backward, lowest, times, backs) else {
             return None;
         };
         if let Some(part) = trace(backs, node, visits, walk) {
             return Some(part);
         }
+        backward = !backward;
     }
     // Not reached: after as many passes as there are nodes, the steps lead back to where they begin.
     None
