@@ -24,7 +24,6 @@ pub(crate) fn descend(
     backs: &mut [Option<Step>],
     visits: &mut [Option<usize>],
     walk: &mut [Place],
-    starts: &mut [u32],
 ) -> Option<(usize, usize)>
     requires steps { (edges : Edges) × AreStepsOf edges steps.old }
     requires sound { AreSoundSteps steps.old }
@@ -36,7 +35,6 @@ pub(crate) fn descend(
     requires backs { length backs.old ≡ NODES }
     requires visits { length visits.old ≡ NODES }
     requires walk { length walk.old ≡ NODES }
-    requires starts { length starts.old ≡ NODES }
     ensures part { IfSome result (λ part. (part.0 < part.1) × (part.1 ≤ NODES)) }
     ensures found { (edges : Edges) → AreStepsOf edges steps.old → IsFound edges times.new walk.new result }
 {
@@ -44,7 +42,7 @@ pub(crate) fn descend(
     backs.fill(None);
     let lowest = NODES as i64 * least;
     for number in 0..NODES {
-        line_up_late(steps, starts, number);
+        line_up_late(steps, number);
         let backward = number % 2 == 1;
         let Some(node) = pass(steps, backward, lowest, times, backs) else {
             return None;
@@ -58,12 +56,10 @@ pub(crate) fn descend(
 }
 
 // Lines the steps up before the pass with this number, where that is the first late one.
-fn line_up_late(steps: &mut [Step], starts: &mut [u32], number: usize)
-    requires steps { AreSoundSteps steps.old }
-    requires starts { length starts.old ≡ NODES }
+fn line_up_late(steps: &mut [Step], number: usize)
     ensures { IsPermutation steps.old steps.new }
 {
     if number == EARLY_PASSES {
-        line_up(steps, starts);
+        line_up(steps);
     }
 }

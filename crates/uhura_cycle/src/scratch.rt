@@ -7,8 +7,8 @@ use crate::step::Step;
 use std::alloc::{AllocError, Global};
 use uhura_net::{NODES, PLACES, Place};
 
-/// Room for the edges that are followed, and for each node its time, the step that lowered it last, where a trace came by
-/// it and, for an end of a duration, the event that starts it. Only `new` takes memory.
+/// Room for the edges that are followed, and for each node its time, the step that lowered it last and where a trace
+/// came by it. Only `new` takes memory.
 #[derive(Debug, Drop)]
 pub struct Scratch {
     pub(crate) steps: Vec<Step>,
@@ -16,13 +16,11 @@ pub struct Scratch {
     pub(crate) backs: Vec<Option<Step>>,
     pub(crate) visits: Vec<Option<usize>>,
     pub(crate) walk: Vec<Place>,
-    pub(crate) starts: Vec<u32>,
     ghost step_room: { vec_len steps ≡ PLACES },
     ghost time_room: { vec_len times ≡ NODES },
     ghost back_room: { vec_len backs ≡ NODES },
     ghost visit_room: { vec_len visits ≡ NODES },
     ghost walk_room: { vec_len walk ≡ NODES },
-    ghost start_room: { vec_len starts ≡ NODES },
 }
 
 impl Scratch {
@@ -34,7 +32,6 @@ impl Scratch {
             backs: vec![in alloc; None; NODES]?,
             visits: vec![in alloc; None; NODES]?,
             walk: vec![in alloc; Place(0); NODES]?,
-            starts: vec![in alloc; 0; NODES]?,
         })
     }
 }

@@ -13,7 +13,7 @@ use uhura_net::{EdgeTable, NODES, PLACES, Place};
 /// The verdict on the edges of the table at the chosen places. It takes no memory. The work is at most nodes times chosen
 /// edges, and much less where few passes settle the times or a closed walk is found early. Passes go through the edges in
 /// one order and in the opposite order by turns, after J. Y. Yen, An algorithm for finding shortest routes from all source
-/// nodes to a given destination in general networks (1970): first in the order of places, later in the order of events.
+/// nodes to a given destination in general networks (1970): first in the order of places, later in that of nodes.
 pub fn settle<'a>(table: &EdgeTable, chosen: &[bool], scratch: &'a mut Scratch) -> Verdict<'a>
     requires { length chosen.now ≡ PLACES }
     ensures { IsVerdict (chosen_edges table.now chosen.now) result }
@@ -26,7 +26,6 @@ pub fn settle<'a>(table: &EdgeTable, chosen: &[bool], scratch: &'a mut Scratch) 
         &mut scratch.backs,
         &mut scratch.visits,
         &mut scratch.walk,
-        &mut scratch.starts,
     );
     match found {
         None => Verdict::Potentials(&scratch.times),
@@ -42,7 +41,6 @@ fn descend_first(
     backs: &mut [Option<Step>],
     visits: &mut [Option<usize>],
     walk: &mut [Place],
-    starts: &mut [u32],
 ) -> Option<(usize, usize)>
     requires count { count ≤ length steps.old }
     requires steps { (edges : Edges) × AreStepsOf edges (take count steps.old) }
@@ -51,13 +49,12 @@ fn descend_first(
     requires backs { length backs.old ≡ NODES }
     requires visits { length visits.old ≡ NODES }
     requires walk { length walk.old ≡ NODES }
-    requires starts { length starts.old ≡ NODES }
     ensures part { IfSome result (λ part. (part.0 < part.1) × (part.1 ≤ NODES)) }
     ensures found { (edges : Edges) → AreStepsOf edges (take count steps.old) → IsFound edges times.new walk.new result }
 {
     let first = &mut steps[..count];
     let least = least_bound(first);
-    descend(first, least, times, backs, visits, walk, starts)
+    descend(first, least, times, backs, visits, walk)
 }
 
 #[cfg(test)]

@@ -71,6 +71,7 @@ impl Solver {
             Verdict::Potentials(_)
         )
     }
+
     /// The earliest schedule of the branch with nothing loosened or narrowed, or why there is none. The edges that the
     /// solver holds don't matter.
     pub fn schedule(

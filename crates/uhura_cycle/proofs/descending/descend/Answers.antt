@@ -20,9 +20,6 @@ loop-number-init c =
           (c.fill.ensures.after (λ y clone. clone)) (rw same at none);
     }
 
-pub line_up_late-requires-clause-steps : goal.line_up_late-requires-clause-steps
-line_up_late-requires-clause-steps c = AreSoundSteps-moved c.args.steps.now c.loop-number.steps c.loop-number.invariant.moved c.requires.sound
-
 pub pass-requires-clause-steps : goal.pass-requires-clause-steps
 pass-requires-clause-steps c =
     AreSoundSteps-moved c.args.steps.now c.line_up_late.new.steps (IsPermutation-trans _ _ _ c.loop-number.invariant.moved c.line_up_late.ensures) c.requires.sound
