@@ -12,8 +12,8 @@ use crate::step::Step;
 use crate::tracing::trace;
 use uhura_net::{NODES, Place};
 
-/// The passes before the steps are lined up. Mostly they are enough, and cost less than lining up.
-const EARLY_PASSES: usize = 4;
+/// The passes before the steps are lined up. Mostly they are enough, and together they cost less than lining up.
+const EARLY_PASSES: usize = 8;
 
 /// Lowers the times from 0 on until they meet the steps, or gives the part of `walk` that is closed and sums below 0. No
 /// bound is below `least`. Passes go forward and backward by turns.
