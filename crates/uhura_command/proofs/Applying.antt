@@ -4,9 +4,9 @@ use Rattle.uhura_plan.specs.declared.key.Side.{Side}
 use Rattle.uhura_plan.specs.declared.refusal.EditRefusal.{EditRefusal}
 use Rattle.uhura_plan.specs.Refusals.{Answers}
 use Rattle.uhura_veto.specs.State.{State}
-use Rattle.uhura_command.specs.declared.command.Command.{Command}
-use Rattle.uhura_command.specs.declared.command.Command.TheVariants as command
-use Rattle.uhura_command.specs.declared.command.ItemName.{ItemName}
+use Rattle.uhura_line.specs.declared.command.Command.{Command}
+use Rattle.uhura_line.specs.declared.command.Command.TheVariants as command
+use Rattle.uhura_line.specs.declared.command.ItemName.{ItemName}
 use Rattle.uhura_command.specs.Apply.{of_edit, edit_refusal, refusal_of, AnswersFirst}
 
 -- its refusal is that of the plan's edit

@@ -4,17 +4,17 @@ use Rattle.std.specs.Prelude.{codes, flat_map}
 use Rattle.std.specs.List.{AllByRecursion}
 use Rattle.uhura_text.specs.Lines.{lines}
 use Rattle.uhura_text.proofs.Growing.{lines-nil}
-use Rattle.uhura_command.specs.declared.command.Command.{Command}
-use Rattle.uhura_command.specs.Form.{words_of}
-use Rattle.uhura_command.specs.Reads.{form_of, IsCommand}
-use Rattle.uhura_command.specs.Parses.{Parses}
-use Rattle.uhura_command.specs.Written.{joined}
+use Rattle.uhura_line.specs.declared.command.Command.{Command}
+use Rattle.uhura_line.specs.Form.{words_of}
+use Rattle.uhura_line.specs.Reads.{form_of, IsCommand}
+use Rattle.uhura_line.specs.Parses.{Parses}
+use Rattle.uhura_line.specs.Written.{joined}
 use Rattle.uhura_command.specs.Script.{command_line}
-use Rattle.uhura_command.proofs.Spacing.{line_of-joined}
-use Rattle.uhura_command.proofs.ReadsBack.{AreWords, good_bytes, reads_back}
-use Rattle.uhura_command.proofs.FormWords.{form_words}
-use Rattle.uhura_command.proofs.LineLengths.{short_line}
-use Rattle.uhura_command.proofs.LinesApart.{lines-cons}
+use Rattle.uhura_line.proofs.Spacing.{line_of-joined}
+use Rattle.uhura_line.proofs.ReadsBack.{AreWords, good_bytes, reads_back}
+use Rattle.uhura_line.proofs.FormWords.{form_words}
+use Rattle.uhura_line.proofs.LineLengths.{short_line}
+use Rattle.uhura_line.proofs.LinesApart.{lines-cons}
 
 -- the line of a command, without its newline
 abbrev pub command_text : Command → List ℕ

@@ -8,7 +8,7 @@ use Rattle.uhura_plan.specs.Refusals.{event_refusal, event_count}
 use Rattle.uhura_plan.specs.Sound.{AreDistinct}
 use Rattle.uhura_plan.specs.declared.key.EventRef.TheVariants.{Controllable}
 use Rattle.uhura_veto.specs.State.{State}
-use Rattle.uhura_command.specs.declared.command.Command.TheVariants as command
+use Rattle.uhura_line.specs.declared.command.Command.TheVariants as command
 use Rattle.uhura_command.specs.Apply.{Applies, of_edit}
 use Rattle.uhura_command.specs.Replay.{Makes}
 use Rattle.uhura_command.proofs.Beginnings.{take_next, length_before}

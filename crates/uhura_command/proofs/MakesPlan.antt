@@ -4,7 +4,7 @@ use Rattle.std.proofs.lemmas.List.{take_all}
 use Rattle.uhura_plan.specs.Lists.{Lists}
 use Rattle.uhura_plan.specs.Sound.{IsSound}
 use Rattle.uhura_veto.specs.State.{State}
-use Rattle.uhura_command.specs.declared.command.Command.TheVariants as command
+use Rattle.uhura_line.specs.declared.command.Command.TheVariants as command
 use Rattle.uhura_command.specs.State.{empty_state}
 use Rattle.uhura_command.specs.Script.{uncertain_command, choice_command, requirement_command, commands_of}
 use Rattle.uhura_command.specs.Replay.{Makes, IsSameUpToSlots}

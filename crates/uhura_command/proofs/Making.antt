@@ -4,7 +4,7 @@ use Rattle.uhura_plan.specs.declared.uncertain.Uncertain.{Uncertain}
 use Rattle.uhura_plan.specs.declared.choice.Choice.{Choice}
 use Rattle.uhura_plan.specs.declared.requirement.Requirement.{Requirement}
 use Rattle.uhura_veto.specs.State.{State}
-use Rattle.uhura_command.specs.declared.command.Command.{Command}
+use Rattle.uhura_line.specs.declared.command.Command.{Command}
 use Rattle.uhura_command.specs.Apply.{Applies}
 use Rattle.uhura_command.specs.Replay.{Makes}
 

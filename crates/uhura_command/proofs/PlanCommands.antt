@@ -16,14 +16,14 @@ use Rattle.uhura_plan.specs.Limits.{IsAmount, IsPrice}
 use Rattle.uhura_plan.specs.Lists.{Lists, alternative_names}
 use Rattle.uhura_plan.specs.Sound.{IsName, IsSound, IsSoundUncertain, IsSoundChoice, IsSoundRequirement, IsLiteralAmong}
 use Rattle.uhura_plan.proofs.Building.{few_literals}
-use Rattle.uhura_command.specs.declared.command.Command.TheVariants as command
-use Rattle.uhura_command.specs.Form.{Word, pair_words, guard_words, rate_words, price_words, IsMax, HasMax}
-use Rattle.uhura_command.specs.Reads.{IsCommand, count_word, priced_of, alternative_pairs, is_amount}
+use Rattle.uhura_line.specs.declared.command.Command.TheVariants as command
+use Rattle.uhura_line.specs.Form.{Word, pair_words, guard_words, rate_words, price_words, IsMax, HasMax}
+use Rattle.uhura_line.specs.Reads.{IsCommand, count_word, priced_of, alternative_pairs, is_amount}
 use Rattle.uhura_command.specs.Script.{literal_names, guard_names, uncertain_command, choice_command, requirement_command, commands_of}
-use Rattle.uhura_command.proofs.LineLengths.{length-pair_words, length-guard_words, length-rate_words, length-price_words}
+use Rattle.uhura_line.proofs.LineLengths.{length-pair_words, length-guard_words, length-rate_words, length-price_words}
 use Rattle.uhura_command.proofs.CommandLines.{FitsLine, few_words}
 use Rattle.uhura_command.proofs.PlanNames.{place_named, event_named, guard_named, literals_among_all, name_not_when}
-use Rattle.uhura_command.proofs.PlanNumbers.{amount_passes, end_passes, rates_pass, bound_passes, price_passes, not_upper, not_when}
+use Rattle.uhura_line.proofs.PlanNumbers.{amount_passes, end_passes, rates_pass, bound_passes, price_passes, not_upper, not_when}
 
 -- ---- events
 

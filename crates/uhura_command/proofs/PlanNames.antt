@@ -11,7 +11,7 @@ use Rattle.uhura_plan.specs.declared.choice.Choice.{Choice}
 use Rattle.uhura_plan.specs.Name.{is_name, is_fixed_word, is_letter, is_name_byte}
 use Rattle.uhura_plan.specs.Lists.{Lists, end_names, alternative_names}
 use Rattle.uhura_plan.specs.Sound.{IsName, IsSound, IsSoundChoice, IsSoundUncertain, IsEventAmong, IsLiteralAmong}
-use Rattle.uhura_command.specs.Reads.{are_names}
+use Rattle.uhura_line.specs.Reads.{are_names}
 use Rattle.uhura_command.proofs.Beginnings.{slice_get-take}
 use Rattle.uhura_command.specs.Script.{name_at, event_name, literal_names, guard_names}
 

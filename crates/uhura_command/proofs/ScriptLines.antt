@@ -3,7 +3,7 @@ use Rattle.std.proofs.Common.{◌≡◌, ℕ, ◌+◌, List, [], ◌∷◌, ◌+
 use Rattle.std.proofs.lemmas.List.{take_more, map-append, append-nil}
 use Rattle.std.proofs.lemmas.Grind.{flat_map-append}
 use Rattle.std.proofs.lemmas.Option.{get_or_from_slice_get, slice_get_within}
-use Rattle.uhura_command.specs.declared.command.Command.{Command}
+use Rattle.uhura_line.specs.declared.command.Command.{Command}
 use Rattle.uhura_command.specs.Script.{command_line}
 
 -- the lines of the things up to a place, and that of the thing there

@@ -5,7 +5,7 @@ use Rattle.uhura_plan.specs.Lists.{Lists}
 use Rattle.uhura_plan.specs.Sound.{IsSound}
 use Rattle.uhura_text.specs.Lines.{lines}
 use Rattle.uhura_veto.specs.State.{State}
-use Rattle.uhura_command.specs.declared.command.Command.{Command}
+use Rattle.uhura_line.specs.declared.command.Command.{Command}
 use Rattle.uhura_command.specs.Script.{commands_of, script}
 use Rattle.uhura_command.specs.Replay.{Makes, Replays}
 use Rattle.uhura_command.proofs.CommandLines.{FitsLine, command_text, command_parses, lines-commands}

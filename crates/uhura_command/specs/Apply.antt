@@ -7,8 +7,8 @@ use Rattle.uhura_plan.specs.Refusals.{event_refusal, uncertain_refusal, choice_r
 use Rattle.uhura_plan.specs.Edits.{with_event, AddsUncertain, AddsChoice, AddsRequirement}
 use Rattle.uhura_plan.specs.Changes.{with_bound, with_price, with_rate, with_range, with_cost, change_requirement, change_uncertain, change_choice, without_requirement}
 use Rattle.uhura_veto.specs.State.{State}
-use Rattle.uhura_command.specs.declared.command.Command.{Command}
-use Rattle.uhura_command.specs.declared.command.Command.TheVariants as command
+use Rattle.uhura_line.specs.declared.command.Command.{Command}
+use Rattle.uhura_line.specs.declared.command.Command.TheVariants as command
 use Rattle.uhura_command.specs.declared.state.refusal.StateRefusal.{StateRefusal}
 use Rattle.uhura_command.specs.declared.state.refusal.StateRefusal.TheVariants.{Taken, Unknown, Kind, Empty, Guard, Full, Unbuilt, Memory}
 

@@ -1,14 +1,4 @@
 pub mod Apply
-pub mod Form
-pub mod Parses
-pub mod Reads
 pub mod Replay
 pub mod Script
 pub mod State
-pub mod Verbs
-pub mod Kinds
-pub mod Tails
-pub mod Pairs
-pub mod Costed
-pub mod Written
-pub mod ParsedBack

@@ -5,8 +5,8 @@ use Rattle.uhura_plan.specs.Lists.{Lists}
 use Rattle.uhura_plan.specs.Sound.{IsSound}
 use Rattle.uhura_text.specs.Lines.{lines}
 use Rattle.uhura_veto.specs.State.{State}
-use Rattle.uhura_command.specs.declared.command.Command.{Command}
-use Rattle.uhura_command.specs.Parses.{Parses}
+use Rattle.uhura_line.specs.declared.command.Command.{Command}
+use Rattle.uhura_line.specs.Parses.{Parses}
 use Rattle.uhura_command.specs.Apply.{Applies}
 use Rattle.uhura_command.specs.Script.{script}
 use Rattle.uhura_command.specs.State.{empty_state}

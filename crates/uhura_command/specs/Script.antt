@@ -8,11 +8,11 @@ use Rattle.uhura_plan.specs.declared.uncertain.Uncertain.{Uncertain}
 use Rattle.uhura_plan.specs.declared.choice.Choice.{Choice}
 use Rattle.uhura_plan.specs.declared.requirement.Requirement.{Requirement}
 use Rattle.uhura_plan.specs.Lists.{Lists, end_names, alternative_names}
-use Rattle.uhura_command.specs.declared.command.Command.{Command}
-use Rattle.uhura_command.specs.declared.command.Command.TheVariants as command
-use Rattle.uhura_command.specs.Form.{words_of}
-use Rattle.uhura_command.specs.Reads.{form_of}
-use Rattle.uhura_command.specs.Written.{line_of}
+use Rattle.uhura_line.specs.declared.command.Command.{Command}
+use Rattle.uhura_line.specs.declared.command.Command.TheVariants as command
+use Rattle.uhura_line.specs.Form.{words_of}
+use Rattle.uhura_line.specs.Reads.{form_of}
+use Rattle.uhura_line.specs.Written.{line_of}
 
 -- the name at a place, which is there in a plan
 abbrev pub name_at : List (List ℕ) → ℕ → List ℕ

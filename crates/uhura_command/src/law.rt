@@ -1,45 +1,10 @@
-//! The laws of the line language: no line has two commands or two causes of refusal, no command is missed or lost, and
-//! a script reads back.
-ghost use Rattle.std.specs.Prelude.{◌≡◌, ℕ, ◌+◌, ◌≤◌, IsTrue, List, length, Option, Some, Result, Ok, Err};
+//! The law of the script: a plan's commands make it, and its canonical script reads back.
 ghost use Rattle.uhura_command.specs.Script.{commands_of};
 ghost use Rattle.uhura_command.specs.State.{empty_state};
 ghost use Rattle.uhura_command.specs.Replay.{Makes, IsSameUpToSlots, ScriptsReadBack};
 ghost use Rattle.uhura_veto.specs.State.{State};
 ghost use Rattle.uhura_plan.specs.Lists.{Lists};
 ghost use Rattle.uhura_plan.specs.Sound.{IsSound};
-ghost use Rattle.std.specs.declared.alloc.AllocError.{AllocError};
-ghost use Rattle.uhura_command.specs.Form.{Word, Form, words_of, IsForm};
-ghost use Rattle.uhura_command.specs.Reads.{form_of, has_numbers, has_names, IsCommand};
-ghost use Rattle.uhura_command.specs.Parses.{ParsesWords, Parses};
-ghost use Rattle.uhura_command.specs.ParsedBack.{IsGiven};
-ghost use Rattle.uhura_command.specs.Written.{line_of, ReadsAs};
-ghost use Rattle.uhura_command.specs.declared.command.Command.{Command};
-ghost use Rattle.uhura_command.specs.declared.refusal.LineRefusal.{LineRefusal};
-ghost use Rattle.uhura_command.specs.declared.refusal.LineRefusal.TheVariants.{Memory};
-
-/// The words of a line are of one form at most, and give one command at most.
-pub fn no_line_has_two_commands()
-    ensures forms { (words : List Word) (f g : Form) → IsForm words f → IsForm words g → f ≡ g }
-    ensures commands { (words : List Word) (c d : Command) → IsForm words (form_of c) → IsForm words (form_of d) → IsCommand c → IsCommand d → c ≡ d }
-{}
-
-/// Words of a form give a command where those at the places of numbers and names are such.
-pub fn no_command_is_missed()
-    ensures { (words : List Word) (f : Form) → IsForm words f → IsTrue (has_numbers f) → IsTrue (has_names f) → (c : Command) × IsForm words (form_of c) × IsCommand c }
-{}
-
-/// A line is refused for one cause at most, and one with a command for want of memory alone.
-pub fn no_line_has_two_causes()
-    ensures causes { (words : List Word) (r s : LineRefusal) → ParsesWords words (Err r) → ParsesWords words (Err s) → r ≡ s }
-    ensures accepted { (words : List Word) (c : Command) (r : LineRefusal) → ParsesWords words (Ok c) → ParsesWords words (Err r) → (error : AllocError) × (r ≡ Memory error) }
-{}
-
-/// A line that is read as the words of a command gives that command, but for want of memory. What is written of a command
-/// has no more bytes, its newline aside, than any line that gives it.
-pub fn no_written_command_is_lost()
-    ensures parsed { (line : List ℕ) (c : Command) (result : Result (Option Command) LineRefusal) → IsCommand c → ReadsAs line (words_of (form_of c)) → length line ≤ 4096 → Parses line result → IsGiven c result }
-    ensures short { (line : List ℕ) (c : Command) → Parses line (Ok (Some c)) → length (line_of (words_of (form_of c))) ≤ length line + 1 }
-{}
 
 /// The commands of a plan make it, one after the other from nothing, up to the slots of its requirements; so does its
 /// canonical script, read line by line.

@@ -1,19 +1,9 @@
-//! The line language: the commands, what a line is parsed to, and how each command is written.
+//! The state of a dialogue: what each command makes of it, its copy, and its script. The line language stands in
+//! `uhura_line`, whose names are passed on.
 #![tactic(auto)]
 
-mod command;
 pub mod law;
-mod literals;
-mod parsing;
-mod refusal;
 mod state;
-#[cfg(test)]
-mod tests;
-mod write;
 
-pub use command::{Command, ItemName};
-pub use literals::Literals;
-pub use parsing::parse;
-pub use refusal::LineRefusal;
 pub use state::{State, StateRefusal};
-pub use write::write_command;
+pub use uhura_line::{Command, ItemName, LineRefusal, Literals, parse, write_command};

@@ -2,6 +2,7 @@ mod Closing
 mod Gathered
 mod Least
 mod Lowering
+mod Moved
 mod Passing
 mod Rounds
 mod Trails

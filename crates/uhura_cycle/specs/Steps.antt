@@ -1,5 +1,5 @@
 -- The edges that are followed, and following one.
-use Rattle.std.specs.Prelude.{ℕ, ◌≡◌, ◌<◌, Bool, true, false, ℤ, ◌+ℤ◌, ◌≤ℤ◌, ◌<ℤ◌, List, Contains, Option, Some, IfSome, slice_set}
+use Rattle.std.specs.Prelude.{ℕ, ◌≡◌, ◌<◌, Bool, true, false, ℤ, ◌+ℤ◌, ◌≤ℤ◌, ◌<ℤ◌, List, Contains, Option, Some, IfSome, slice_set, reverse}
 use Rattle.std.specs.List.{All}
 use Rattle.uhura_net.specs.declared.edge.TheConstants.{NODES}
 use Rattle.uhura_net.specs.declared.edge.Edge.{Edge}
@@ -15,6 +15,11 @@ AreThere edges steps = All (λ step. edges step.place.0 ≡ Some step.edge) step
 pub record AreStepsOf (edges : Edges) (steps : List Step) : Type 0 where
   pub there : AreThere edges steps
   pub every : (place : ℕ) (edge : Edge) → edges place ≡ Some edge → Contains steps (record { place = record { 0 = place }; edge = edge })
+
+-- the steps in the order of a pass, which may go backward
+abbrev pub in_order : Bool → List Step → List Step
+in_order false steps = steps
+in_order true steps = reverse steps
 
 -- each may stand where it does
 abbrev pub AreSoundSteps : List Step → Type 0

@@ -7,6 +7,7 @@
 
 mod descending;
 mod gathering;
+mod lining;
 mod relaxing;
 mod scratch;
 mod settling;

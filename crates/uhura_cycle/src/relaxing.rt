@@ -1,17 +1,20 @@
 //! Following an edge, and each edge once.
-ghost use Rattle.std.specs.Prelude.{◌≡◌, ◌+◌, ℕ, ◌^◌, ◌≤ℤ◌, ℤ, pos, negsuc, Some, length};
+ghost use Rattle.std.specs.Prelude.{◌≡◌, ◌+◌, ◌<◌, ℕ, ◌^◌, ◌≤ℤ◌, ℤ, pos, negsuc, Some, length, slice_index_or};
 ghost use Rattle.std.specs.List.{All};
 ghost use Rattle.uhura_net.specs.Table.{IsEdgeFor};
 ghost use Rattle.uhura_net.specs.Edges.{Edges, time_at};
-ghost use Rattle.uhura_cycle.specs.Steps.{AreThere, AreSoundSteps, HasTimesFrom, IsRelaxed};
+ghost use Rattle.uhura_cycle.specs.Steps.{AreThere, AreSoundSteps, HasTimesFrom, IsRelaxed, in_order};
+ghost use Rattle.uhura_cycle.specs.declared.step.Step.{Step};
 ghost use Rattle.uhura_cycle.specs.Descent.{History, IsAfterPasses, IsPass};
 
 use crate::step::Step;
 use uhura_net::NODES;
 
-/// Follows each step once, until a time falls below `lowest`, and gives the node that was lowered last.
+/// Follows each step once, the last one first where the pass goes backward, until a time falls below `lowest`, and gives
+/// the node that was lowered last.
 pub(crate) fn pass(
     steps: &[Step],
+    backward: bool,
     lowest: i64,
     times: &mut [i64],
     backs: &mut [Option<Step>],
@@ -29,8 +32,9 @@ pub(crate) fn pass(
         IsPass edges steps.now (passes + 1) lowest times.new backs.new result }
 {
     let mut last = None;
-    for step in steps {
-        if relax(*step, times, backs) {
+    for taken in 0..steps.len() {
+        let step = step_after(steps, backward, taken);
+        if relax(step, times, backs) {
             last = Some(step.edge.to);
             if times[step.edge.to as usize] < lowest {
                 return last;
@@ -38,6 +42,20 @@ pub(crate) fn pass(
         }
     }
     last
+}
+
+// The step that comes after the first `taken` ones.
+fn step_after(steps: &[Step], backward: bool, taken: usize) -> Step
+    requires taken { taken < length steps.now }
+    requires steps { AreSoundSteps steps.now }
+    ensures step { (other : Step) → result ≡ slice_index_or (in_order backward steps.now) taken other }
+    ensures sound { IsEdgeFor result.place.0 result.edge }
+{
+    if backward {
+        steps[steps.len() - 1 - taken]
+    } else {
+        steps[taken]
+    }
 }
 
 // Lowers the time of the edge's end to what the edge allows, where it is above that, and says whether it was.

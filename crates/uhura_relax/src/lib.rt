@@ -6,9 +6,11 @@ mod loosened;
 mod refusal;
 mod relaxing;
 mod schedule;
+mod scratch;
 #[cfg(test)]
 mod tests;
 
 pub use refusal::RelaxRefusal;
-pub use relaxing::earliest;
+pub use relaxing::{earliest, earliest_in};
 pub use schedule::Schedule;
+pub use scratch::RelaxScratch;

@@ -1,5 +1,5 @@
 //! The table of the loosened edges, each turned around.
-ghost use Rattle.std.specs.Prelude.{◌≡◌, ℕ, ◌≤◌, false, IfOk};
+ghost use Rattle.std.specs.Prelude.{◌≡◌, ℕ, ◌≤◌, false};
 ghost use Rattle.uhura_net.specs.Place.{is_loose};
 ghost use Rattle.uhura_net.specs.Table.{IsEdgeFor};
 ghost use Rattle.uhura_worst.specs.Edges.{IsSoundConstraint};
@@ -8,25 +8,22 @@ ghost use Rattle.uhura_worst.specs.Filled.{IsFilledBy};
 ghost use Rattle.uhura_worst.specs.WorstCase.{loosened_edge};
 ghost use Rattle.uhura_relax.specs.Loosened.{turned, turned_tables};
 
-use std::alloc::{AllocError, Global};
 use uhura_choice::{Branch, holds};
 use uhura_net::{Edge, EdgeTable};
 use uhura_plan::{EdgeKey, Plan, Requirement, Uncertain};
 use uhura_worst::constraint::{Constraint, FIRM_CAPACITY};
 use uhura_worst::{Loosening, Tables, fill_by};
 
-/// The table of the loosened edges, each turned around.
-pub(crate) fn turned_table(
-    alloc: Global,
+/// Makes each place of the table hold its loosened edge, turned around.
+pub(crate) fn fill_turned(
+    table: &mut EdgeTable,
     plan: &Plan,
     branch: &Branch,
     loosening: &Loosening,
-) -> Result<EdgeTable, AllocError>
-    ensures { IfOk result (λ table. IsFilledBy (turned_tables branch.now (units_in loosening.now)) plan.now table) }
+)
+    ensures { IsFilledBy (turned_tables branch.now (units_in loosening.now)) plan.now table.new }
 {
-    let mut table = EdgeTable::new(alloc)?;
-    fill_by(&mut table, plan, &Loosened { branch, loosening });
-    Ok(table)
+    fill_by(table, plan, &Loosened { branch, loosening });
 }
 
 // Which requirements are active, and by how much each side is loosened or narrowed.

@@ -4,12 +4,12 @@
 ghost use Rattle.std.specs.Prelude.{◌≡◌, IfOk, reverse};
 ghost use Rattle.uhura_relax.specs.Schedule.{LeavesSome, IsRelaxed};
 
-use crate::loosened::turned_table;
-use crate::{RelaxRefusal, Schedule};
+use crate::loosened::fill_turned;
+use crate::{RelaxRefusal, RelaxScratch, Schedule};
 use std::alloc::{AllocError, Global};
 use uhura_choice::Branch;
-use uhura_cycle::{Scratch, Verdict, settle};
-use uhura_net::{PLACES, Place};
+use uhura_cycle::{Verdict, settle};
+use uhura_net::Place;
 use uhura_plan::Plan;
 use uhura_worst::Loosening;
 
@@ -28,11 +28,24 @@ pub fn earliest(
     requires { LeavesSome plan.now branch.now loosening.now }
     ensures { IsRelaxed plan.now branch.now loosening.now result }
 {
-    let table = turned_table(alloc, plan, branch, loosening)?;
-    let chosen = vec![in alloc; true; PLACES]?;
-    let mut scratch = Scratch::new(alloc)?;
+    let mut scratch = RelaxScratch::new(alloc)?;
+    earliest_in(alloc, plan, branch, loosening, &mut scratch)
+}
+
+/// The same as `earliest`, in room that is kept from one call to the next. Only the answer takes memory.
+pub fn earliest_in(
+    alloc: Global,
+    plan: &Plan,
+    branch: &Branch,
+    loosening: &Loosening,
+    scratch: &mut RelaxScratch,
+) -> Result<Schedule, RelaxRefusal>
+    requires { LeavesSome plan.now branch.now loosening.now }
+    ensures { IsRelaxed plan.now branch.now loosening.now result }
+{
+    fill_turned(&mut scratch.table, plan, branch, loosening);
     let events = plan.events();
-    match settle(&table, &chosen, &mut scratch) {
+    match settle(&scratch.table, &scratch.chosen, &mut scratch.solver) {
         Verdict::Potentials(times) => {
             let schedule = Schedule::opposite(alloc, times, events)?;
             Ok(schedule)

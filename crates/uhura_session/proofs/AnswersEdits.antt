@@ -1,8 +1,8 @@
 -- A command that edits is answered by its edit.
 use Rattle.std.proofs.Common.{ℕ, Bool, List}
 use Rattle.uhura_veto.specs.State.{State}
-use Rattle.uhura_command.specs.declared.command.Command.{Command}
-use Rattle.uhura_command.specs.declared.command.Command.TheVariants as command
+use Rattle.uhura_line.specs.declared.command.Command.{Command}
+use Rattle.uhura_line.specs.declared.command.Command.TheVariants as command
 use Rattle.uhura_command.specs.Apply.{IsEdit, Applies, refusal_of}
 use Rattle.uhura_session.specs.Answers.{AnswersEdit, AnswersCommand}
 

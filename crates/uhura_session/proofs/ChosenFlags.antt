@@ -1,5 +1,5 @@
 -- The flags of a branch, and the edges that they choose.
-use Rattle.std.proofs.Common.{◌≡◌, ◌≢◌, ℕ, ◌+◌, ◌<◌, ◌≤◌, Bool, true, false, List, length, set, get_or, Option, None, Some, slice_get, Contains, AllPairs, inl, inr, refl, sym, ap, subst, ◌∙◌, arith, get_or-set_same, get_or-set_other, length-set}
+use Rattle.std.proofs.Common.{rules, ◌≡◌, ◌≢◌, ℕ, ◌+◌, ◌<◌, ◌≤◌, Bool, true, false, List, length, set, get_or, Option, None, Some, slice_get, Contains, AllPairs, inl, inr, refl, sym, ap, subst, ◌∙◌, arith, get_or-set_same, get_or-set_other, length-set}
 use Rattle.std.specs.Prelude.{if◌then◌else◌, option_and_then}
 use Rattle.std.specs.Option.{option_map_or}
 use Rattle.std.proofs.Math.ListN.{get_or-eq_default}
@@ -19,7 +19,7 @@ use Rattle.uhura_choice.specs.declared.prefix.Pick.{Pick}
 use Rattle.uhura_choice.specs.Branch.{holds}
 use Rattle.uhura_net.specs.declared.edge.Edge.{Edge}
 use Rattle.uhura_net.specs.Edges.{chosen_edges}
-use Rattle.uhura_net.specs.Place.{first_place, firm_row, place_number, HasPlace}
+use Rattle.uhura_net.specs.Place.{firm_row, place_number, HasPlace}
 use Rattle.uhura_veto.specs.State.{State}
 use Rattle.uhura_worst.specs.Edges.{requirement_edge, edge_of}
 use Rattle.uhura_worst.specs.Filled.{held, IsTableOf}
@@ -40,20 +40,8 @@ fixed-all chosen places all = record {
   order = λ d placed. all (Order d) placed (below (Order d) placed);
 }
   where
-    below_rows : (of : Item) (row : ℕ) → HasPlace (Firm (record { item = of; side = Lower })) → row < 4 → first_place of + row < 9472
-    below_rows (item.Requirement slot) row placed small = omega arith
-    below_rows (item.Uncertain d) row placed small = omega arith
-
     below : (key : EdgeKey) → HasPlace key → place_number key < 9472
-    below (Loose key) placed = elim key.side as (λ side. place_number (Loose (record { item = key.item; side = side })) < 9472) [
-      | Lower ↦ below_rows key.item 0 placed (omega arith)
-      | Upper ↦ below_rows key.item 2 placed (omega arith)
-    ]
-    below (Firm key) placed = elim key.side as (λ side. place_number (Firm (record { item = key.item; side = side })) < 9472) [
-      | Lower ↦ below_rows key.item 1 placed (omega arith)
-      | Upper ↦ below_rows key.item 3 placed (omega arith)
-    ]
-    below (Order d) placed = omega arith
+    below key placed = search rules
 
 -- a write at a firm edge of a requirement leaves each other edge
 left : (old : List Bool) (slot : ℕ) (side : Side) (active : Bool) (key : EdgeKey) → place_number key ≢ place_number (firm_key (item.Requirement slot) side) →
@@ -62,14 +50,7 @@ left old slot side active key other = get_or-set_other old (place_number (firm_k
 
 -- it is elsewhere than a loose edge, an order edge and a firm edge of another item
 apart-loose : (slot : ℕ) (side other : Side) (of : Item) → slot < 2048 → place_number (Loose (record { item = of; side = other })) ≢ place_number (firm_key (item.Requirement slot) side)
-apart-loose slot Lower Lower (item.Requirement s) placed = λ same. omega arith
-apart-loose slot Lower Upper (item.Requirement s) placed = λ same. omega arith
-apart-loose slot Upper Lower (item.Requirement s) placed = λ same. omega arith
-apart-loose slot Upper Upper (item.Requirement s) placed = λ same. omega arith
-apart-loose slot Lower Lower (item.Uncertain d) placed = λ same. omega arith
-apart-loose slot Lower Upper (item.Uncertain d) placed = λ same. omega arith
-apart-loose slot Upper Lower (item.Uncertain d) placed = λ same. omega arith
-apart-loose slot Upper Upper (item.Uncertain d) placed = λ same. omega arith
+apart-loose slot side other of placed = λ same. search rules
 
 firm_row-small : (side : Side) → firm_row side ≤ 3
 firm_row-small Lower = omega arith

@@ -6,8 +6,8 @@ use Rattle.uhura_text.specs.Words.{is_quiet}
 use Rattle.uhura_plan.specs.Lists.{Lists}
 use Rattle.uhura_plan.specs.Sound.{IsSound}
 use Rattle.uhura_veto.specs.State.{State}
-use Rattle.uhura_command.specs.declared.command.Command.{Command}
-use Rattle.uhura_command.specs.Parses.{Parses}
+use Rattle.uhura_line.specs.declared.command.Command.{Command}
+use Rattle.uhura_line.specs.Parses.{Parses}
 use Rattle.uhura_command.specs.Apply.{Applies, refusal_of}
 use Rattle.uhura_command.specs.Script.{commands_of, script}
 use Rattle.uhura_command.specs.State.{empty_state}

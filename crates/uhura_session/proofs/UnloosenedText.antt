@@ -7,7 +7,7 @@ use Rattle.uhura_plan.specs.declared.requirement.Requirement.{Requirement}
 use Rattle.uhura_plan.specs.declared.uncertain.Uncertain.{Uncertain}
 use Rattle.uhura_choice.specs.declared.prefix.Pick.{Pick}
 use Rattle.uhura_choice.specs.Branch.{picked_cost}
-use Rattle.uhura_command.specs.Written.{line_of}
+use Rattle.uhura_line.specs.Written.{line_of}
 use Rattle.uhura_relax.specs.Schedule.{proposal_with}
 use Rattle.uhura_session.specs.ProposalText.{pick_lines, loosen_lines, narrow_lines, time_lines, proposal_text}
 use Rattle.uhura_session.proofs.Unloosened.{picks_alone_cost}

@@ -7,16 +7,16 @@ use Rattle.uhura_plan.specs.declared.uncertain.Uncertain.{Uncertain}
 use Rattle.uhura_veto.specs.State.{State}
 use Rattle.uhura_worst.specs.Proposal.{Proposal}
 use Rattle.uhura_worst.specs.Best.{IsBest, AllowsNothing}
-use Rattle.uhura_command.specs.declared.command.Command.{Command}
-use Rattle.uhura_command.specs.declared.command.Command.TheVariants as command
-use Rattle.uhura_command.specs.declared.refusal.LineRefusal.{LineRefusal}
-use Rattle.uhura_command.specs.declared.refusal.LineRefusal.TheVariants as line
+use Rattle.uhura_line.specs.declared.command.Command.{Command}
+use Rattle.uhura_line.specs.declared.command.Command.TheVariants as command
+use Rattle.uhura_line.specs.declared.refusal.LineRefusal.{LineRefusal}
+use Rattle.uhura_line.specs.declared.refusal.LineRefusal.TheVariants as line
 use Rattle.uhura_command.specs.declared.state.refusal.StateRefusal.{StateRefusal}
 use Rattle.uhura_command.specs.declared.state.refusal.StateRefusal.TheVariants as state
-use Rattle.uhura_command.specs.Parses.{Parses}
+use Rattle.uhura_line.specs.Parses.{Parses}
 use Rattle.uhura_command.specs.Apply.{refusal_of, Applies}
 use Rattle.uhura_command.specs.Script.{script}
-use Rattle.uhura_command.specs.Written.{line_of}
+use Rattle.uhura_line.specs.Written.{line_of}
 use Rattle.uhura_session.specs.ProposalText.{proposal_text}
 
 -- an accepted edit is answered `ok`

@@ -12,8 +12,8 @@ use Rattle.uhura_choice.specs.declared.prefix.Pick.{Pick}
 use Rattle.uhura_choice.specs.declared.prefix.Pick.TheVariants.{Alternative, Inactive}
 use Rattle.uhura_worst.specs.Proposal.{Proposal, loosened, narrowed}
 use Rattle.uhura_worst.specs.Cost.{cost}
-use Rattle.uhura_command.specs.Form.{side_word}
-use Rattle.uhura_command.specs.Written.{line_of}
+use Rattle.uhura_line.specs.Form.{side_word}
+use Rattle.uhura_line.specs.Written.{line_of}
 
 -- the name of an alternative
 abbrev pub alternative_name : Choice → ℕ → List ℕ

@@ -1,7 +1,7 @@
 //! Edits of the state, and their answers.
 ghost use Rattle.std.specs.Prelude.{◌≡◌, [], IfOk, OnErr};
 ghost use Rattle.uhura_command.specs.Apply.{IsEdit, Applies, refusal_of};
-ghost use Rattle.uhura_command.specs.Reads.{IsCommand};
+ghost use Rattle.uhura_line.specs.Reads.{IsCommand};
 ghost use Rattle.uhura_command.specs.State.{state_of};
 ghost use Rattle.uhura_session.specs.Answers.{AnswersEdit};
 

@@ -1,7 +1,7 @@
 //! The text of a proposal that loosens nothing.
 ghost use Rattle.std.specs.Prelude.{◌≡◌, ◌≤◌, ◌++◌, [], ◌∷◌, length, pos, IfOk, codes};
 ghost use Rattle.uhura_text.specs.Number.{spelling};
-ghost use Rattle.uhura_command.specs.Written.{line_of};
+ghost use Rattle.uhura_line.specs.Written.{line_of};
 ghost use Rattle.uhura_relax.specs.Schedule.{proposal_with, scheduled};
 ghost use Rattle.uhura_session.specs.ProposalText.{alternative_name, pick_lines, time_lines, proposal_text};
 

@@ -15,9 +15,8 @@ use crate::solver::Solver;
 use std::alloc::{AllocError, Global};
 use uhura_choice::Branch;
 use uhura_plan::{Plan, Requirement, Uncertain};
-use uhura_relax::{RelaxRefusal, Schedule, earliest};
+use uhura_relax::{RelaxRefusal, Schedule};
 use uhura_veto::Vetoes;
-use uhura_worst::Loosening;
 
 /// Answers the question, where the plan can be asked so far. The solver is room to work in, kept from one question to
 /// the next.
@@ -56,7 +55,7 @@ fn put_answer(
 {
     match best_branch(plan, vetoes, solver) {
         Some(branch) => {
-            let schedule = schedule_branch(alloc, plan, &branch)?;
+            let schedule = schedule_branch(alloc, plan, &branch, solver)?;
             put_proposal(text, plan, &branch, &schedule)?;
             Ok(())
         }
@@ -69,12 +68,17 @@ fn put_answer(
 
 /// The earliest schedule of an open branch, with nothing loosened or narrowed. There is one: without prices an edge that
 /// isn't loose has the bound of its side, so times that keep such edges pass no bound.
-fn schedule_branch(alloc: Global, plan: &Plan, branch: &Branch) -> Result<Schedule, AllocError>
+fn schedule_branch(
+    alloc: Global,
+    plan: &Plan,
+    branch: &Branch,
+    solver: &mut Solver,
+) -> Result<Schedule, AllocError>
     requires unpriced { IsUnpriced plan.now }
     requires open_branch { IsOpen (free plan.now) branch.now }
     ensures { IfOk result (λ schedule. IsEarliestSchedule plan.now branch.now [] schedule) }
 {
-    match earliest(alloc, plan, branch, &Loosening::new(alloc)) {
+    match solver.schedule(alloc, plan, branch) {
         Ok(schedule) => Ok(schedule),
         Err(RelaxRefusal::Memory(error)) => Err(error),
         Err(RelaxRefusal::Broken { .. }) => unreachable!(),

@@ -1,6 +1,6 @@
 //! The session: the state that the lines so far left, and the text of the last answer.
 ghost use Rattle.std.specs.Prelude.{◌≡◌, [], IfOk, OnErr};
-ghost use Rattle.uhura_command.specs.Reads.{IsCommand};
+ghost use Rattle.uhura_line.specs.Reads.{IsCommand};
 ghost use Rattle.uhura_command.specs.State.{state_of, empty_state};
 ghost use Rattle.uhura_session.specs.Answers.{Answers, AnswersCommand};
 

@@ -1,8 +1,10 @@
-//! The solver: a question fills it once, and then it is asked about one branch after another.
-ghost use Rattle.std.specs.Prelude.{◌≡◌, List, MatchBool};
+//! The solver: a question fills it once, and then it is asked about one branch after another, and last for the schedule of
+//! the best.
+ghost use Rattle.std.specs.Prelude.{◌≡◌, List, [], MatchBool};
 ghost use Rattle.uhura_veto.specs.declared.veto.Veto.{Veto};
 ghost use Rattle.uhura_veto.specs.State.{State};
 ghost use Rattle.uhura_worst.specs.Filled.{IsTableOf};
+ghost use Rattle.uhura_relax.specs.Schedule.{LeavesSome, IsRelaxed};
 ghost use Rattle.uhura_session.specs.Branches.{HasTimes};
 
 use crate::flags::{choose_active, fixed_flags};
@@ -12,16 +14,18 @@ use uhura_choice::Branch;
 use uhura_cycle::{Scratch, Verdict, settle};
 use uhura_net::EdgeTable;
 use uhura_plan::Plan;
+use uhura_relax::{RelaxRefusal, RelaxScratch, Schedule, earliest_in};
 use uhura_veto::Vetoes;
-use uhura_worst::fill;
+use uhura_worst::{Loosening, fill};
 
 /// The edges of the worst case of a plan, flags that choose those of a branch, and room to search for times that keep
-/// them. Only `new` takes memory.
+/// them and for the earliest schedule. Only `new` and what `schedule` answers take memory.
 #[derive(Drop)]
 pub struct Solver {
     table: EdgeTable,
     chosen: Vec<bool>,
     scratch: Scratch,
+    relax: RelaxScratch,
 }
 
 impl Model for Solver {
@@ -43,6 +47,7 @@ impl Solver {
             table: EdgeTable::new(alloc)?,
             chosen: fixed_flags(alloc)?,
             scratch: Scratch::new(alloc)?,
+            relax: RelaxScratch::new(alloc)?,
         })
     }
 
@@ -65,5 +70,20 @@ impl Solver {
             settle(&self.table, &self.chosen, &mut self.scratch),
             Verdict::Potentials(_)
         )
+    }
+
+    /// The earliest schedule of the branch with nothing loosened or narrowed, or why there is none. The edges that the
+    /// solver holds don't matter.
+    pub fn schedule(
+        &mut self,
+        alloc: Global,
+        plan: &Plan,
+        branch: &Branch,
+    ) -> Result<Schedule, RelaxRefusal>
+        requires { LeavesSome plan.now branch.now [] }
+        ensures { IsRelaxed plan.now branch.now [] result }
+    {
+        let nothing = Loosening::new(alloc);
+        earliest_in(alloc, plan, branch, &nothing, &mut self.relax)
     }
 }

@@ -29,12 +29,14 @@ pub fn fill_by<T: Tables>(table: &mut EdgeTable, plan: &Plan, tables: &T)
     put_durations(table, plan, tables);
 }
 
-// Empties each place.
+// Empties each place. Most are empty as a rule, and a look costs less than a write.
 fn clear(table: &mut EdgeTable)
     ensures { (place : ℕ) → place < 9472 → slice_index_or table.new place None ≡ None }
 {
     for place in 0..PLACES as u32 {
-        table.put(Place(place), None);
+        if table.get(Place(place)).is_some() {
+            table.put(Place(place), None);
+        }
     }
 }
 

@@ -1,12 +1,12 @@
 //! What a command makes of a state.
 ghost use Rattle.std.specs.Prelude.{◌≡◌, OnOk, OnErr};
 ghost use Rattle.uhura_plan.specs.Refusals.{Answers};
-ghost use Rattle.uhura_command.specs.Reads.{IsCommand};
+ghost use Rattle.uhura_line.specs.Reads.{IsCommand};
 ghost use Rattle.uhura_command.specs.Apply.{IsEdit, Edits, Applies, AnswersFirst, edit_refusal, refusal_of};
 ghost use Rattle.uhura_command.specs.State.{state_of};
 
 use super::{State, StateRefusal};
-use crate::Command;
+use uhura_line::Command;
 use uhura_plan::{EditRefusal, Plan};
 
 impl State {

@@ -1,12 +1,12 @@
 //! The canonical script of a state.
 ghost use Rattle.std.specs.Prelude.{◌≡◌, ◌++◌, ◌<◌, length, map, flat_map, slice_get, Some, All, IfOk, OnOk, OnErr};
 ghost use Rattle.uhura_plan.specs.Sound.{IsEventAmong, IsLiteralAmong, IsSoundRequirement};
-ghost use Rattle.uhura_command.specs.declared.command.Command.TheVariants as command;
+ghost use Rattle.uhura_line.specs.declared.command.Command.TheVariants as command;
 ghost use Rattle.uhura_command.specs.Script.{name_at, event_name, literal_names, guard_names, uncertain_command, choice_command, requirement_command, command_line, script};
 
 use super::State;
-use crate::{Command, Literals, write_command};
 use std::alloc::{AllocError, Global};
+use uhura_line::{Command, Literals, write_command};
 use uhura_plan::{Alternatives, Choice, EventRef, Literal, Name, Plan, Requirement, Uncertain};
 
 impl State {

@@ -1,9 +1,9 @@
 //! A state, its script and its copy, after some lines.
-ghost use Rattle.uhura_command.specs.Reads.{IsCommand};
+ghost use Rattle.uhura_line.specs.Reads.{IsCommand};
 
 use super::*;
-use crate::{Command, parse};
 use std::test::Fail;
+use uhura_line::{Command, parse};
 
 fn edit(state: &mut State, command: &Command) -> Result<(), StateRefusal>
     requires { IsCommand command.now }

@@ -2,7 +2,7 @@ use Rattle.std.proofs.Common.{◌≡◌, ap, sym, subst, ◌∙◌, ◌++◌, �
 use Rattle.std.specs.Prelude.{codes, pos}
 use Rattle.uhura_text.specs.Number.{spelling}
 use Rattle.uhura_choice.specs.Branch.{picked_cost}
-use Rattle.uhura_command.specs.Written.{line_of}
+use Rattle.uhura_line.specs.Written.{line_of}
 use Rattle.uhura_relax.specs.Schedule.{scheduled}
 use Rattle.uhura_session.specs.ProposalText.{pick_lines, time_lines}
 use Rattle.uhura_session.proofs.UnloosenedText.{unloosened_text}

@@ -2,7 +2,7 @@ use Rattle.std.proofs.Common.{subst, ◌≡◌, ◌++◌, ◌+◌, [], ◌∷◌
 use Rattle.std.specs.Prelude.{slice_get, Some, None, codes, pos, unwrap_or}
 use Rattle.std.proofs.lemmas.Option.{unwrap_or-slice_get}
 use Rattle.uhura_text.specs.Number.{spelling}
-use Rattle.uhura_command.specs.Written.{line_of}
+use Rattle.uhura_line.specs.Written.{line_of}
 use Rattle.uhura_relax.specs.Schedule.{scheduled}
 use Rattle.uhura_session.specs.ProposalText.{time_lines}
 use Rattle.uhura_session.proofs.Walk.{left_at, ended_at, extended}

@@ -1,5 +1,5 @@
 -- Each number of the command is within the limits of its place, as the plan's edit asks.
-use Rattle.uhura_command.proofs.CommandLimits.{uncertain_within, choice_within, require_within, new_bound_within, new_price_within, new_rate_within, range_within, new_cost_within}
+use Rattle.uhura_line.proofs.CommandLimits.{uncertain_within, choice_within, require_within, new_bound_within, new_price_within, new_rate_within, range_within, new_cost_within}
 use Rattle.uhura_command.proofs.state.apply.edit.Goals as goal
 
 pub add_uncertain-requires-clause-lower : goal.add_uncertain-requires-clause-lower

@@ -1,6 +1,6 @@
 use Rattle.std.proofs.Common.{refl}
 use Rattle.uhura_command.proofs.ScriptLines.{script_more}
-use Rattle.uhura_command.specs.declared.command.Command.TheVariants as command
+use Rattle.uhura_line.specs.declared.command.Command.TheVariants as command
 use Rattle.uhura_command.proofs.state.script.put_events.Goals as goal
 
 pub loop-place-preserved : goal.loop-place-preserved

@@ -1,5 +1,5 @@
 use Rattle.std.proofs.Common.{◌≡◌, ◌++◌, take, map, flat_map}
-use Rattle.uhura_command.specs.declared.command.Command.TheVariants as command
+use Rattle.uhura_line.specs.declared.command.Command.TheVariants as command
 use Rattle.uhura_command.specs.Script.{command_line}
 use Rattle.uhura_command.proofs.state.script.put_events.Given as goal
 

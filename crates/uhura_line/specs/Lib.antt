@@ -1,0 +1,10 @@
+pub mod Form
+pub mod Parses
+pub mod Reads
+pub mod Verbs
+pub mod Kinds
+pub mod Tails
+pub mod Pairs
+pub mod Costed
+pub mod Written
+pub mod ParsedBack

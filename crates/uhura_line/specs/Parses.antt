@@ -1,0 +1,54 @@
+-- What a line is parsed to.
+use Rattle.std.specs.Prelude.{◌≡◌, ℕ, ◌-◌, ◌^◌, ◌<◌, ◌≤◌, min, Bool, true, false, List, [], ◌∷◌, length, None, Some, Option, option_map, Result, Ok, Err, bytes_eq, codes}
+use Rattle.std.specs.List.{list_any}
+use Rattle.uhura_text.specs.Words.{words, first_bad, is_quiet}
+use Rattle.uhura_line.specs.declared.command.Command.{Command}
+use Rattle.uhura_line.specs.declared.refusal.LineRefusal.{LineRefusal}
+use Rattle.uhura_line.specs.declared.refusal.LineRefusal.TheVariants.{Long, Byte, Verb, Form, Number, Name, Memory}
+use Rattle.uhura_line.specs.Form as grammar
+use Rattle.uhura_line.specs.Reads.{form_of, has_numbers, has_names, IsCommand}
+
+-- the words that a command may begin with
+abbrev pub verbs : List grammar.Word
+verbs = codes "event" ∷ codes "uncertain" ∷ codes "choice" ∷ codes "require" ∷ codes "drop" ∷ codes "bound" ∷ codes "price" ∷ codes "range"
+    ∷ codes "prefer" ∷ codes "deny" ∷ codes "cap" ∷ codes "withdraw" ∷ codes "show" ∷ codes "propose" ∷ codes "prove" ∷ []
+
+abbrev pub begins_with_verb : List grammar.Word → Bool
+begins_with_verb [] = false
+begins_with_verb (word ∷ more) = list_any (bytes_eq word) verbs
+
+-- a form of the words whose names and numbers are such, as far as said
+pub record HasForm (line : List grammar.Word) (numbers names : Bool) : Type 0 where
+  pub form : grammar.Form
+  pub is_form : grammar.IsForm line form
+  pub has_numbers : has_numbers form ≡ numbers
+  pub has_names : numbers ≡ true → has_names form ≡ names
+
+-- the words of a line with no bad byte are a command, or are refused for the first cause; want of memory comes last
+abbrev pub ParsesWords : List grammar.Word → Result Command LineRefusal → Type 0
+ParsesWords line (Ok c) = grammar.IsForm line (form_of c) × IsCommand c
+ParsesWords line (Err Long) = ⊥
+ParsesWords line (Err (Byte at)) = ⊥
+ParsesWords line (Err Verb) = begins_with_verb line ≡ false
+ParsesWords line (Err Form) = (begins_with_verb line ≡ true) × ((form : grammar.Form) → grammar.IsForm line form → ⊥)
+ParsesWords line (Err Number) = (names : Bool) × HasForm line false names
+ParsesWords line (Err Name) = HasForm line true false
+ParsesWords line (Err (Memory error)) = HasForm line true true
+
+-- the line is read by its words: it isn't long, it asks for something, and each byte may stand there
+pub record IsWorded (line : List ℕ) : Type 0 where
+  pub short : length line ≤ 4096
+  pub asks : is_quiet line ≡ false
+  pub good : first_bad line ≡ None
+
+-- what a line is parsed to: long, quiet, with a bad byte, or what its words are
+abbrev pub Parses : List ℕ → Result (Option Command) LineRefusal → Type 0
+Parses line (Err Long) = 4096 < length line
+Parses line (Ok None) = (length line ≤ 4096) × (is_quiet line ≡ true)
+Parses line (Err (Byte at)) = (length line ≤ 4096) × (is_quiet line ≡ false) × (option_map (min (2 ^ 32 - 1)) (first_bad line) ≡ Some at)
+Parses line (Ok (Some c)) = IsWorded line × ParsesWords (words line) (Ok c)
+Parses line (Err Verb) = IsWorded line × ParsesWords (words line) (Err Verb)
+Parses line (Err Form) = IsWorded line × ParsesWords (words line) (Err Form)
+Parses line (Err Number) = IsWorded line × ParsesWords (words line) (Err Number)
+Parses line (Err Name) = IsWorded line × ParsesWords (words line) (Err Name)
+Parses line (Err (Memory error)) = IsWorded line × ParsesWords (words line) (Err (Memory error))

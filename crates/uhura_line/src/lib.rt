@@ -1,0 +1,17 @@
+//! The line language: the commands, what a line is parsed to, and how each command is written.
+#![tactic(auto)]
+
+mod command;
+pub mod law;
+mod literals;
+mod parsing;
+mod refusal;
+#[cfg(test)]
+mod tests;
+mod write;
+
+pub use command::{Command, ItemName};
+pub use literals::Literals;
+pub use parsing::parse;
+pub use refusal::LineRefusal;
+pub use write::write_command;
