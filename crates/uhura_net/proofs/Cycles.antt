@@ -12,7 +12,7 @@ use Rattle.uhura_net.specs.declared.place.Place.{Place}
 use Rattle.uhura_net.specs.Edges.{Edges, no_edge, edge_at}
 use Rattle.uhura_net.specs.Walk.{Leads, IsClosedWalk, bounds_of}
 use Rattle.uhura_net.specs.Sums.{sum_below, int_sum_below}
-use Rattle.uhura_net.specs.Circulation.{Units, edges_of, units_of, units_in, units_out, IsBalanced, weighed, value_of}
+use Rattle.uhura_net.specs.Circulation.{Units, edges_of, units_of, units_entering, units_leaving, IsBalanced, weighed, value_of}
 use Rattle.uhura_net.specs.Residual.{residual_edge, residual_walk, IsResidualCycle, HasRoom, CanMove, place_at, IsMoved, IsPushed}
 use Rattle.uhura_net.specs.Net.{Carried, IsNetEdge, IsNet, net_value}
 use Rattle.uhura_net.proofs.Scaled.{scaled_parts}
@@ -109,7 +109,7 @@ balance_at units false false = omega (arith, ints, scaled_parts units (pos 0))
 
 -- the units that enter a node less those that leave it are a weighed sum
 balance_weighed : (places : ℕ) (edges : Edges) (units : Units) (node : ℕ) →
-    weighed places edges units (λ edge. is_node node edge.to -ℤ is_node node edge.from) ≡ pos (units_in places edges units node) -ℤ pos (units_out places edges units node)
+    weighed places edges units (λ edge. is_node node edge.to -ℤ is_node node edge.from) ≡ pos (units_entering places edges units node) -ℤ pos (units_leaving places edges units node)
 unfolding sum_below int_sum_below is_node
 balance_weighed zero edges units node = refl
 balance_weighed (suc n) edges units node =

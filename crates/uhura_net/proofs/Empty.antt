@@ -1,24 +1,19 @@
 -- A table and a net without an edge.
-use Rattle.std.proofs.Common.{◌≡◌, ℕ, zero, suc, List, get_or, length, replicate, Option, None, IfSome, refl, sym, ap, subst, ◌∙◌, Bool, true, false, cond, eqb, arith}
+use Rattle.std.proofs.Common.{◌≡◌, ℕ, List, get_or, length, replicate, Option, None, IfSome, refl, sym, ap, subst, ◌∙◌, Bool, true, false, cond, eqb, arith}
 use Rattle.std.proofs.lemmas.List.{length-replicate}
+use Rattle.uhura_plan.proofs.Slots.{get_or-replicate_default}
 use Rattle.uhura_net.specs.declared.edge.Edge.{Edge}
 use Rattle.uhura_net.specs.declared.place.TheConstants.{PLACES}
 use Rattle.uhura_net.specs.Table.{IsTable, IsEdgeFor}
 use Rattle.uhura_net.specs.Edges.{Edges, edge_at}
 use Rattle.uhura_net.specs.Sums.{sum_below}
 use Rattle.uhura_net.specs.Circulation.{Units, edges_of, units_of, IsBalanced}
-use Rattle.uhura_net.specs.Net.{Carried, IsNetEdge, IsNet}
+use Rattle.uhura_net.specs.Net.{Carried, IsNetEdge, IsNet, empty_net}
 use Rattle.uhura_net.proofs.Sums.{sum_below-same}
 
--- copies of the default are the default everywhere
 cond_same : (b : Bool) (n : ℕ) → cond b n n ≡ n
 cond_same true n = refl
 cond_same false n = refl
-
-pub get_or-replicate_default : {X : Type 0} (n i : ℕ) (x : X) → get_or (replicate n x) i x ≡ x
-get_or-replicate_default zero i x = refl
-get_or-replicate_default (suc n) zero x = refl
-get_or-replicate_default (suc n) (suc i) x = get_or-replicate_default n i x
 
 pub IsTable-empty : (table : List (Option Edge)) → table ≡ replicate PLACES None → IsTable table
 IsTable-empty table empty = record {
@@ -55,6 +50,5 @@ IsNet-empty edges units no_edges no_units =
     }
 
 pub net-empty : (edges : List (Option Edge)) (units : List ℕ) → edges ≡ replicate PLACES None → units ≡ replicate PLACES 0 →
-    let empty : Carried = record { edges = replicate PLACES None; units = replicate PLACES 0; pushes = 0 } in
-    ◌≡◌ {A = Carried} (record { edges = edges; units = units; pushes = 0 }) empty
+    ◌≡◌ {A = Carried} (record { edges = edges; units = units; pushes = 0 }) empty_net
 net-empty edges units no_edges no_units = cc

@@ -1,7 +1,7 @@
 use Rattle.std.proofs.Common.{◌≡◌, ℕ, List, replicate, get_or, ap, ◌∙◌}
 use Rattle.uhura_net.specs.declared.place.TheConstants.{PLACES}
 use Rattle.uhura_net.specs.Net.{Carried}
-use Rattle.uhura_net.proofs.Empty.{get_or-replicate_default}
+use Rattle.uhura_plan.proofs.Slots.{get_or-replicate_default}
 use Rattle.uhura_net.proofs.tests.there_and_back.Goals as goal
 
 pub returns-clause-none : goal.returns-clause-none
