@@ -5,12 +5,14 @@ use Rattle.std.specs.List.{All}
 use Rattle.std.proofs.lemmas.Int.{ints}
 use Rattle.std.proofs.lemmas.Bool.{cases_eq}
 use Rattle.std.proofs.lemmas.List.Elements.{All-head, All-tail}
+use Rattle.uhura_net.specs.declared.edge.TheConstants.{FIRM_CAPACITY}
+use Rattle.uhura_net.specs.declared.place.TheConstants.{PLACES}
 use Rattle.uhura_net.specs.declared.edge.Edge.{Edge}
 use Rattle.uhura_net.specs.declared.place.Place.{Place}
 use Rattle.uhura_net.specs.Edges.{Edges, no_edge, edge_at}
 use Rattle.uhura_net.specs.Walk.{Leads, IsClosedWalk, bounds_of}
 use Rattle.uhura_net.specs.Sums.{sum_below, int_sum_below}
-use Rattle.uhura_net.specs.Circulation.{Units, edges_of, units_of, units_in, units_out, IsBalanced, weighed, value_of}
+use Rattle.uhura_net.specs.Circulation.{Units, edges_of, units_of, units_entering, units_leaving, IsBalanced, weighed, value_of}
 use Rattle.uhura_net.specs.Residual.{residual_edge, residual_walk, IsResidualCycle, HasRoom, CanMove, place_at, IsMoved, IsPushed}
 use Rattle.uhura_net.specs.Net.{Carried, IsNetEdge, IsNet, net_value}
 use Rattle.uhura_net.proofs.Scaled.{scaled_parts}
@@ -42,7 +44,7 @@ is_among (place ∷ places) at =
     ]
 
 -- what an edge has left is enough for the step
-room_left : (edge : Edge) (back : Bool) (units amount : ℕ) → edge.capacity ≤ 10000000000 → units ≤ edge.capacity → amount ≤ (residual_edge edge units back).capacity →
+room_left : (edge : Edge) (back : Bool) (units amount : ℕ) → edge.capacity ≤ FIRM_CAPACITY → units ≤ edge.capacity → amount ≤ (residual_edge edge units back).capacity →
     HasRoom amount back units
 room_left edge true units amount small within left = left
 room_left edge false units amount small within left = omega arith
@@ -53,7 +55,7 @@ within_moved : (edge : Edge) (back : Bool) (amount before after : ℕ) → befor
 within_moved edge true amount before after within left moved = omega arith
 within_moved edge false amount before after within left moved = omega arith
 
-capacity_most : (at : Option Edge) → IfSome at IsNetEdge → (unwrap_or at no_edge).capacity ≤ 10000000000
+capacity_most : (at : Option Edge) → IfSome at IsNetEdge → (unwrap_or at no_edge).capacity ≤ FIRM_CAPACITY
 capacity_most None sound = omega arith
 capacity_most (Some edge) sound = sound.capacity
 
@@ -107,7 +109,7 @@ balance_at units false false = omega (arith, ints, scaled_parts units (pos 0))
 
 -- the units that enter a node less those that leave it are a weighed sum
 balance_weighed : (places : ℕ) (edges : Edges) (units : Units) (node : ℕ) →
-    weighed places edges units (λ edge. is_node node edge.to -ℤ is_node node edge.from) ≡ pos (units_in places edges units node) -ℤ pos (units_out places edges units node)
+    weighed places edges units (λ edge. is_node node edge.to -ℤ is_node node edge.from) ≡ pos (units_entering places edges units node) -ℤ pos (units_leaving places edges units node)
 unfolding sum_below int_sum_below is_node
 balance_weighed zero edges units node = refl
 balance_weighed (suc n) edges units node =
@@ -161,10 +163,10 @@ IsNetPushed-around net places backward amount units pushes is_net cycle pushed c
     each = is_net.each;
     circulates = record {
       within = pushed_within (edges_of net.edges) (units_of net.units) (units_of units) places backward amount is_net.circulates.within cycle pushed;
-      balanced = pushed_balanced 9472 (edges_of net.edges) (units_of net.units) (units_of units) places backward amount is_net.circulates.balanced cycle.inside cycle pushed;
+      balanced = pushed_balanced PLACES (edges_of net.edges) (units_of net.units) (units_of units) places backward amount is_net.circulates.balanced cycle.inside cycle pushed;
     };
   };
-  value = pushed_value 9472 (edges_of net.edges) (units_of net.units) (units_of units) places backward amount cycle.inside cycle pushed;
+  value = pushed_value PLACES (edges_of net.edges) (units_of net.units) (units_of units) places backward amount cycle.inside cycle pushed;
 }
 
 -- the same where the old units are read, and the new ones written, as equal lists

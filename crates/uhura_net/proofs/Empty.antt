@@ -1,24 +1,19 @@
 -- A table and a net without an edge.
-use Rattle.std.proofs.Common.{◌≡◌, ℕ, zero, suc, List, get_or, length, replicate, Option, None, IfSome, refl, sym, ap, subst, ◌∙◌, Bool, true, false, cond, eqb, arith}
+use Rattle.std.proofs.Common.{◌≡◌, ℕ, List, get_or, length, replicate, Option, None, IfSome, refl, sym, ap, subst, ◌∙◌, Bool, true, false, cond, eqb, arith}
 use Rattle.std.proofs.lemmas.List.{length-replicate}
+use Rattle.uhura_plan.proofs.Slots.{get_or-replicate_default}
 use Rattle.uhura_net.specs.declared.edge.Edge.{Edge}
 use Rattle.uhura_net.specs.declared.place.TheConstants.{PLACES}
 use Rattle.uhura_net.specs.Table.{IsTable, IsEdgeFor}
 use Rattle.uhura_net.specs.Edges.{Edges, edge_at}
 use Rattle.uhura_net.specs.Sums.{sum_below}
 use Rattle.uhura_net.specs.Circulation.{Units, edges_of, units_of, IsBalanced}
-use Rattle.uhura_net.specs.Net.{Carried, IsNetEdge, IsNet}
+use Rattle.uhura_net.specs.Net.{Carried, IsNetEdge, IsNet, empty_net}
 use Rattle.uhura_net.proofs.Sums.{sum_below-same}
 
--- copies of the default are the default everywhere
 cond_same : (b : Bool) (n : ℕ) → cond b n n ≡ n
 cond_same true n = refl
 cond_same false n = refl
-
-pub get_or-replicate_default : {X : Type 0} (n i : ℕ) (x : X) → get_or (replicate n x) i x ≡ x
-get_or-replicate_default zero i x = refl
-get_or-replicate_default (suc n) zero x = refl
-get_or-replicate_default (suc n) (suc i) x = get_or-replicate_default n i x
 
 pub IsTable-empty : (table : List (Option Edge)) → table ≡ replicate PLACES None → IsTable table
 IsTable-empty table empty = record {
@@ -37,24 +32,23 @@ nothing_balanced places edges units none node =
     (λ place _. rw (none place) (cond_same (eqb (end place) node) 0)) in
     nothing (λ place. (edge_at edges place).to) ∙ sym (nothing (λ place. (edge_at edges place).from))
 
-pub IsNet-empty : (edges : List (Option Edge)) (units : List ℕ) → edges ≡ replicate 9472 None → units ≡ replicate 9472 0 →
+pub IsNet-empty : (edges : List (Option Edge)) (units : List ℕ) → edges ≡ replicate PLACES None → units ≡ replicate PLACES 0 →
     IsNet (record { edges = edges; units = units; pushes = 0 })
 IsNet-empty edges units no_edges no_units =
-    let none : (place : ℕ) → get_or units place 0 ≡ 0 = λ place. ap (λ us. get_or us place 0) no_units ∙ get_or-replicate_default 9472 place 0 in
+    let none : (place : ℕ) → get_or units place 0 ≡ 0 = λ place. ap (λ us. get_or us place 0) no_units ∙ get_or-replicate_default PLACES place 0 in
     record {
-      places = ap length no_edges ∙ length-replicate {A = Option Edge} 9472 None;
-      counts = ap length no_units ∙ length-replicate {A = ℕ} 9472 0;
+      places = ap length no_edges ∙ length-replicate {A = Option Edge} PLACES None;
+      counts = ap length no_units ∙ length-replicate {A = ℕ} PLACES 0;
       each = λ place.
           let holds : Option Edge → Type 0 = λ edge. IfSome edge IsNetEdge in
-          let absent : get_or edges place None ≡ None = ap (λ es. get_or es place None) no_edges ∙ get_or-replicate_default 9472 place None in
+          let absent : get_or edges place None ≡ None = ap (λ es. get_or es place None) no_edges ∙ get_or-replicate_default PLACES place None in
           subst holds (sym absent) tt;
       circulates = record {
         within = λ place. omega (arith, none place);
-        balanced = nothing_balanced 9472 (edges_of edges) (units_of units) none;
+        balanced = nothing_balanced PLACES (edges_of edges) (units_of units) none;
       };
     }
 
-pub net-empty : (edges : List (Option Edge)) (units : List ℕ) → edges ≡ replicate 9472 None → units ≡ replicate 9472 0 →
-    let empty : Carried = record { edges = replicate 9472 None; units = replicate 9472 0; pushes = 0 } in
-    ◌≡◌ {A = Carried} (record { edges = edges; units = units; pushes = 0 }) empty
+pub net-empty : (edges : List (Option Edge)) (units : List ℕ) → edges ≡ replicate PLACES None → units ≡ replicate PLACES 0 →
+    ◌≡◌ {A = Carried} (record { edges = edges; units = units; pushes = 0 }) empty_net
 net-empty edges units no_edges no_units = cc

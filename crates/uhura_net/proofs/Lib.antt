@@ -9,7 +9,7 @@ mod Loops
 mod Moves
 pub mod Outweighing
 pub mod Paying
-mod Prices
+mod Worths
 mod Pushing
 pub mod Rows
 pub mod Scaled

@@ -7,4 +7,4 @@ pub mod Circulation
 pub mod Optimal
 pub mod Residual
 pub mod Net
-pub mod Price
+pub mod Worth

@@ -1,8 +1,12 @@
 -- Edges with a circulation on them.
-use Rattle.std.specs.Prelude.{ℕ, ◌<◌, ◌≤◌, ◌≡◌, ◌≢◌, ◌⊎◌, pos, negsuc, ◌≤ℤ◌, ℤ, List, Option, None, IfSome, unwrap_or, length, slice_index_or}
+use Rattle.std.specs.Prelude.{ℕ, ◌<◌, ◌≤◌, ◌≡◌, ◌≢◌, ◌⊎◌, pos, negsuc, ◌≤ℤ◌, ℤ, List, Bool, Option, None, IfSome, unwrap_or, length, replicate, slice_index_or}
+use Rattle.uhura_net.specs.declared.edge.TheConstants.{NODES, FIRM_CAPACITY}
+use Rattle.uhura_net.specs.declared.place.TheConstants.{PLACES}
 use Rattle.uhura_net.specs.declared.edge.Edge.{Edge}
 use Rattle.uhura_net.specs.Edges.{no_edge, edge_at}
+use Rattle.uhura_net.specs.declared.place.Place.{Place}
 use Rattle.uhura_net.specs.Circulation.{edges_of, units_of, IsCirculation, value_of}
+use Rattle.uhura_net.specs.Residual.{residual_walk, IsResidualCycle}
 
 -- the edge at each place, the units that it carries, and how often units were pushed
 pub record Carried : Type 0 where
@@ -10,30 +14,30 @@ pub record Carried : Type 0 where
   pub units : List ℕ
   pub pushes : ℕ
 
--- the edge is between two nodes below 1,024, with a bound from -2,000,000,000 to 2,000,000,000, and carries at most
+-- the edge is between two nodes, with a bound from -2,000,000,000 to 2,000,000,000, and carries at most
 -- 10,000,000,000 units
 pub record IsNetEdge (edge : Edge) : Type 0 where
-  pub from : edge.from < 1024
-  pub to : edge.to < 1024
+  pub from : edge.from < NODES
+  pub to : edge.to < NODES
   pub apart : edge.from ≢ edge.to
   pub least : negsuc 1999999999 ≤ℤ edge.bound
   pub most : edge.bound ≤ℤ pos 2000000000
-  pub capacity : edge.capacity ≤ 10000000000
+  pub capacity : edge.capacity ≤ FIRM_CAPACITY
 
 -- the units are a circulation over the edges
 abbrev pub Circulates : Carried → Type 0
-Circulates net = IsCirculation 9472 (edges_of net.edges) (units_of net.units)
+Circulates net = IsCirculation PLACES (edges_of net.edges) (units_of net.units)
 
--- each of 9,472 places has such an edge, or none, and units, which are a circulation
+-- each place has such an edge, or none, and units, which are a circulation
 pub record IsNet (net : Carried) : Type 0 where
-  pub places : length net.edges ≡ 9472
-  pub counts : length net.units ≡ 9472
+  pub places : length net.edges ≡ PLACES
+  pub counts : length net.units ≡ PLACES
   pub each : (place : ℕ) → IfSome (slice_index_or net.edges place None) IsNetEdge
   pub circulates : Circulates net
 
 -- the value of the circulation
 unfoldable pub net_value : Carried → ℤ
-net_value net = value_of 9472 (edges_of net.edges) (units_of net.units)
+net_value net = value_of PLACES (edges_of net.edges) (units_of net.units)
 
 -- some units may pass from an edge to another: it has the same nodes and can carry them
 pub record CanTakeOver (old new : Edge) (units : ℕ) : Type 0 where
@@ -44,4 +48,20 @@ pub record CanTakeOver (old new : Edge) (units : ℕ) : Type 0 where
 -- an edge, or none, may be set at a place that has no units, or where it can take over what is there
 abbrev pub MayBeSet : Carried → ℕ → Option Edge → Type 0
 MayBeSet net place edge =
-    (units_of net.units place ≡ 0) ⊎ CanTakeOver (edge_at (edges_of net.edges) place) (unwrap_or edge no_edge) (units_of net.units place)
+    (units_of net.units place ≡ 0)
+    ⊎ CanTakeOver (edge_at (edges_of net.edges) place) (unwrap_or edge no_edge)
+    (units_of net.units place)
+
+-- a net without an edge
+abbrev pub empty_net : Carried
+empty_net = record { edges = replicate PLACES None; units = replicate PLACES 0; pushes = 0 }
+
+-- the residual edges of a net at places, each of them walked backward or forward
+abbrev pub net_walk : Carried → List Place → List Bool → List Edge
+net_walk net places backward =
+    residual_walk (edges_of net.edges) (units_of net.units) places backward
+
+-- they can carry some more units each, and are a closed walk on which no place stands twice
+abbrev pub IsNetCycle : Carried → List Place → List Bool → ℕ → Type 0
+IsNetCycle net places backward amount =
+    IsResidualCycle (edges_of net.edges) (units_of net.units) places backward amount

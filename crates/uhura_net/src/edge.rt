@@ -3,7 +3,11 @@
 /// The number of nodes: one for each controllable event, and two for each end of a duration.
 pub const NODES: usize = 1024;
 
-/// It says that the time of `to` is at most `bound` after the time of `from`. Its price is its capacity.
+/// How many units an edge that isn't loose can carry: more than all loose ones together.
+pub const FIRM_CAPACITY: u64 = 10_000_000_000;
+
+/// It says that the time of `to` is at most `bound` after the time of `from`. At most `capacity` units pass along it:
+/// the price of a unit on a loose edge.
 #[derive(Clone, Copy, Debug, PartialEq, Eq)]
 pub struct Edge {
     pub from: u32,

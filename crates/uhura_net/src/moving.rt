@@ -11,7 +11,8 @@ pub(crate) fn move_units(units: &mut [u64], places: &[Place], backward: &[bool],
     requires steps { length backward.now ≡ length places.now }
     requires once { IsDistinct is_same_place places.now }
     requires room { CanMove places.now backward.now amount units.old }
-    ensures pushed { IsPushed places.now backward.now amount (units_of units.old) (units_of units.new) }
+    ensures pushed { IsPushed places.now backward.now amount
+        (units_of units.old) (units_of units.new) }
     ensures places { length units.new ≡ length units.old }
 {
     for (step, place) in places.iter().enumerate() {

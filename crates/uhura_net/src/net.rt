@@ -1,18 +1,18 @@
 //! Edges with a circulation on them.
-ghost use Rattle.std.specs.Prelude.{◌≡◌, ◌+◌, ◌-◌, ◌^◌, ◌<◌, min, pos, ◌+ℤ◌, ◌*ℤ◌, None, IfOk, IfSome, replicate, slice_index_or, slice_set};
+ghost use Rattle.std.specs.Prelude.{◌≡◌, ◌+◌, ◌-◌, ◌^◌, ◌<◌, min, pos, ◌+ℤ◌, ◌*ℤ◌, IfOk, IfSome, slice_set};
 ghost use Rattle.uhura_net.specs.Walk.{bounds_of};
 ghost use Rattle.uhura_net.specs.Circulation.{edges_of, units_of};
-ghost use Rattle.uhura_net.specs.Residual.{residual_walk, IsResidualCycle, IsPushed};
-ghost use Rattle.uhura_net.specs.Net.{IsNetEdge, IsNet, MayBeSet, net_value};
+ghost use Rattle.uhura_net.specs.Residual.{IsPushed};
+ghost use Rattle.uhura_net.specs.Net.{IsNetEdge, IsNet, MayBeSet, net_value, empty_net, net_walk, IsNetCycle};
 
 use crate::moving::move_units;
-use crate::pricing::price;
+use crate::worth::worth;
 use crate::{Edge, PLACES, Place};
 use std::alloc::{AllocError, Global};
 use std::marker::Model;
 
-/// Edges at their places, and the units that each of them carries, which are a circulation: at each node as many enter
-/// as leave, and no edge carries more than its capacity. Only `new` takes memory.
+/// Edges at their places, and the units that each of them carries, which are a circulation: at each node as many
+/// enter as leave, and no edge carries more than its capacity. Only `new` takes memory.
 #[derive(Debug, Drop)]
 pub struct Net {
     edges: Vec<Option<Edge>>,
@@ -25,15 +25,17 @@ impl Model for Net {
 
     ghost Value = { Carried };
 
-    ghost view = { λ net. record { edges = net.edges.items; units = net.units.items; pushes = net.pushes } };
+    ghost view = { λ net.
+        record { edges = net.edges.items; units = net.units.items; pushes = net.pushes } };
 
-    ghost invariant = { λ net. IsNet (record { edges = net.edges.items; units = net.units.items; pushes = net.pushes }) };
+    ghost invariant = { λ net.
+        IsNet (record { edges = net.edges.items; units = net.units.items; pushes = net.pushes }) };
 }
 
 impl Net {
     /// A net without an edge.
     pub fn new(alloc: Global) -> Result<Net, AllocError>
-        ensures net { IfOk result (λ net. net ≡ record { edges = replicate 9472 None; units = replicate 9472 0; pushes = 0 }) }
+        ensures net { IfOk result (λ net. net ≡ empty_net) }
         ensures sound { IfOk result IsNet }
     {
         Ok(Net {
@@ -43,10 +45,10 @@ impl Net {
         })
     }
 
-    /// Puts an edge, or none, at a place. All units stay, and all other edges. An edge may come and go where there are no
-    /// units; where there are some, the new edge has the same nodes and a capacity for them.
+    /// Puts an edge, or none, at a place. All units stay, and all other edges. An edge may come and go where there
+    /// are no units; where there are some, the new edge has the same nodes and a capacity for them.
     pub fn set(&mut self, place: Place, edge: Option<Edge>)
-        requires place { place.0 < 9472 }
+        requires place { place.0 < PLACES }
         requires edge { IfSome edge IsNetEdge }
         requires units { MayBeSet self.old place.0 edge }
         ensures net { self.new ≡ record self.old { edges = slice_set self.old.edges place.0 edge } }
@@ -57,7 +59,7 @@ impl Net {
 
     /// The edge at a place.
     pub fn edge(&self, place: Place) -> Option<Edge>
-        requires { place.0 < 9472 }
+        requires { place.0 < PLACES }
         ensures edge { result ≡ edges_of self.now.edges place.0 }
         ensures there { IfSome result IsNetEdge }
         ensures sound { IsNet self.now }
@@ -67,7 +69,7 @@ impl Net {
 
     /// How many units the edge at a place carries.
     pub fn units(&self, place: Place) -> u64
-        requires { place.0 < 9472 }
+        requires { place.0 < PLACES }
         ensures units { result ≡ units_of self.now.units place.0 }
         ensures sound { IsNet self.now }
     {
@@ -77,12 +79,15 @@ impl Net {
     /// Moves units around a residual cycle: each place that is walked forward gets them, and they are taken from each
     /// that is walked backward. The value falls by the units times the bounds along the walk.
     pub fn push(&mut self, places: &[Place], backward: &[bool], units: u64)
-        requires { IsResidualCycle (edges_of self.old.edges) (units_of self.old.units) places.now backward.now units }
+        requires { IsNetCycle self.old places.now backward.now units }
         ensures edges { self.new.edges ≡ self.old.edges }
-        ensures units { IsPushed places.now backward.now units (units_of self.old.units) (units_of self.new.units) }
+        ensures units { IsPushed places.now backward.now units
+            (units_of self.old.units) (units_of self.new.units) }
         ensures pushes { self.new.pushes ≡ min (self.old.pushes + 1) (2 ^ 64 - 1) }
         ensures sound { IsNet self.new }
-        ensures value { net_value self.new +ℤ (pos units *ℤ bounds_of (residual_walk (edges_of self.old.edges) (units_of self.old.units) places.now backward.now)) ≡ net_value self.old }
+        ensures value { net_value self.new +ℤ
+            (pos units *ℤ bounds_of (net_walk self.old places.now backward.now)) ≡
+            net_value self.old }
     {
         move_units(&mut self.units, places, backward, units);
         self.pushes = self.pushes.saturating_add(1);
@@ -94,7 +99,7 @@ impl Net {
         ensures value { result ≡ net_value self.now }
         ensures sound { IsNet self.now }
     {
-        -price(&self.edges, &self.units)
+        -worth(&self.edges, &self.units)
     }
 
     /// How many pushes there were. It stands still at the end of its type.

@@ -58,6 +58,7 @@ impl EdgeTable {
 #[cfg(test)]
 mod tests {
     use super::*;
+    use crate::FIRM_CAPACITY;
 
     #[test]
     #[tactic(auto, unfolding(crate::specs::Place::is_loose))]
@@ -67,7 +68,7 @@ mod tests {
             from: 3,
             to: 1023,
             bound: -5,
-            capacity: 10_000_000_000,
+            capacity: FIRM_CAPACITY,
         };
         table.put(Place(1), Some(edge));
         table.put(Place(3), Some(edge));

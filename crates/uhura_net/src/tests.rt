@@ -2,13 +2,15 @@
 ghost use Rattle.std.specs.Prelude.{◌≡◌, ℕ, negsuc, pos, Some, IfOk};
 ghost use Rattle.uhura_net.specs.Circulation.{edges_of, units_of};
 
-use crate::{Edge, Net, Place};
+use crate::{Edge, FIRM_CAPACITY, Net, Place};
 use std::alloc::{AllocError, Global};
 
-// An edge at place 1 that carries at most 4 units, and one back at place 3.
+/// An edge at place 1 that carries at most 4 units, and one back at place 3.
 fn there_and_back(alloc: Global) -> Result<Net, AllocError>
-    ensures there { IfOk result (λ net. edges_of net.edges 1 ≡ Some (record { from = 0; to = 1023; bound = negsuc 6; capacity = 4 })) }
-    ensures back { IfOk result (λ net. edges_of net.edges 3 ≡ Some (record { from = 1023; to = 0; bound = pos 2; capacity = 10000000000 })) }
+    ensures there { IfOk result (λ net. edges_of net.edges 1 ≡
+        Some (record { from = 0; to = 1023; bound = negsuc 6; capacity = 4 })) }
+    ensures back { IfOk result (λ net. edges_of net.edges 3 ≡
+        Some (record { from = 1023; to = 0; bound = pos 2; capacity = FIRM_CAPACITY })) }
     ensures none { IfOk result (λ net. (place : ℕ) → units_of net.units place ≡ 0) }
 {
     let mut net = Net::new(alloc)?;
@@ -23,7 +25,7 @@ fn there_and_back(alloc: Global) -> Result<Net, AllocError>
         from: 1023,
         to: 0,
         bound: 2,
-        capacity: 10_000_000_000,
+        capacity: FIRM_CAPACITY,
     };
     net.set(Place(3), Some(back));
     Ok(net)
