@@ -6,6 +6,7 @@ use Rattle.std.specs.Cmp.Lexicographic.{nat_list_eq_equiv}
 use Rattle.std.proofs.lemmas.List.{length_push}
 use Rattle.std.proofs.lemmas.List.Elements.{All-push, All-weaker, Contains-push_cases, Contains-get_or}
 use Rattle.std.proofs.lemmas.Map.Keys.{IsDistinct-push}
+use Rattle.uhura_plan.specs.declared.limits.TheConstants.{EVENTS}
 use Rattle.uhura_plan.specs.declared.key.EventRef.{EventRef}
 use Rattle.uhura_plan.specs.declared.key.EventRef.TheVariants.{Controllable, End}
 use Rattle.uhura_plan.specs.declared.uncertain.Uncertain.{Uncertain}
@@ -85,7 +86,7 @@ module _ (plan : Lists) (name : List ℕ) (sound : IsSound plan) (new : IsNoEven
   }
 
   -- the plan stays sound
-  pub IsSound-with_event : IsName name → length plan.events + length plan.uncertains < 512 → IsSound (with_event plan name)
+  pub IsSound-with_event : IsName name → length plan.events + length plan.uncertains < EVENTS → IsSound (with_event plan name)
   IsSound-with_event named room = record {
     counts = record {
       events = omega (arith, length_push plan.events name, room);
@@ -112,7 +113,7 @@ module _ (events : List (List ℕ)) (uncertains : List (List ℕ × Uncertain)) 
       ∙ ap (λ p. with_event p name) view
 
   -- and it is sound
-  pub HoldsPlan-with_event : {ends : List (List ℕ)} → HoldsPlan events ends uncertains choices requirements → IsName name → length plan.events + length plan.uncertains < 512 → HoldsPlan keys ends uncertains choices requirements
+  pub HoldsPlan-with_event : {ends : List (List ℕ)} → HoldsPlan events ends uncertains choices requirements → IsName name → length plan.events + length plan.uncertains < EVENTS → HoldsPlan keys ends uncertains choices requirements
   HoldsPlan-with_event held named room = record {
     end_keys = held.end_keys;
     uncertain_keys = held.uncertain_keys;

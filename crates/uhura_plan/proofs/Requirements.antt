@@ -8,6 +8,7 @@ use Rattle.std.proofs.lemmas.List.Elements.{All-push, All-weaker, Contains-get_o
 use Rattle.std.proofs.lemmas.List.Quantifiers.{all_pairs_push}
 use Rattle.std.proofs.lemmas.Map.Keys.{IsDistinct-push}
 use Rattle.std.proofs.lemmas.Slice.Eq.{bytes_eq-Decides}
+use Rattle.uhura_plan.specs.declared.limits.TheConstants.{REQUIREMENTS}
 use Rattle.uhura_plan.specs.declared.uncertain.Uncertain.{Uncertain}
 use Rattle.uhura_plan.specs.declared.choice.Choice.{Choice}
 use Rattle.uhura_plan.specs.declared.requirement.Bounded.{Bounded}
@@ -68,7 +69,7 @@ module _ (plan : Lists) (name from to : List ℕ) (lower upper : Bounded) (guard
     guard = old.guard;
   }
 
-  module _ (named : IsName name) (within_lower : AreWithinLimits lower) (within_upper : AreWithinLimits upper) (among : IsGuardAmong plan.choices made.guard) (below : made.slot < 2048) where
+  module _ (named : IsName name) (within_lower : AreWithinLimits lower) (within_upper : AreWithinLimits upper) (among : IsGuardAmong plan.choices made.guard) (below : made.slot < REQUIREMENTS) where
     -- the requirement made is sound
     IsSoundRequirement-made : IsSoundRequirement (with_requirement plan made) made
     IsSoundRequirement-made = record {
@@ -127,7 +128,7 @@ module _ (events : List (List ℕ)) (uncertains : List (List ℕ × Uncertain)) 
       ap Made requirements_added ∙ ap (λ p. with_requirement p made) view
 
   -- and it is sound
-  pub HoldsPlan-with_requirement : IsName name → AreWithinLimits lower → AreWithinLimits upper → IsGuardAmong plan.choices made.guard → made.slot < 2048 → HoldsPlan events ends uncertains choices inserted
+  pub HoldsPlan-with_requirement : IsName name → AreWithinLimits lower → AreWithinLimits upper → IsGuardAmong plan.choices made.guard → made.slot < REQUIREMENTS → HoldsPlan events ends uncertains choices inserted
   HoldsPlan-with_requirement named within_lower within_upper among below = record {
     end_keys = held.end_keys;
     uncertain_keys = held.uncertain_keys;

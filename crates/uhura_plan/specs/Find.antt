@@ -49,4 +49,5 @@ literal_named plan names =
 
 -- the requirement of this name
 abbrev pub requirement_of : Lists → List ℕ → Option Requirement
-requirement_of plan name = find (λ r. bytes_eq name r.name) plan.requirements
+requirement_of plan name =
+    option_and_then (λ place. slice_get plan.requirements place) (requirement_named plan name)
