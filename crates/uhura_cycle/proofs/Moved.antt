@@ -1,10 +1,9 @@
 -- What holds of the steps in one order holds of them in another.
-use Rattle.std.proofs.Common.{◌≡◌, ℕ, ◌+◌, ℤ, Bool, true, false, List, length, Option, None, Some, inl, inr, refl}
+use Rattle.std.proofs.Common.{◌≡◌, ℕ, ◌+◌, Bool, true, false, List, length, Option, None, Some, inl, inr, refl}
 use Rattle.std.specs.List.Sorted.{IsPermutation}
 use Rattle.std.proofs.lemmas.List.{length-reverse}
 use Rattle.std.proofs.lemmas.List.Sorted.{All-permutation, IsPermutation-refl, IsPermutation-reverse, IsPermutation-sym}
 use Rattle.uhura_net.specs.Table.{IsEdgeFor}
-use Rattle.uhura_net.specs.Edges.{Edges}
 use Rattle.uhura_cycle.specs.declared.step.Step.{Step}
 use Rattle.uhura_cycle.specs.Steps.{Labels, AreThere, AreSoundSteps, IsKept, in_order}
 use Rattle.uhura_cycle.specs.Descent.{Course, History, IsKeptSince, IsAfterPasses, IsPass, MakesPass}
