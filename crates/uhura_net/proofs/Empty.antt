@@ -8,7 +8,7 @@ use Rattle.uhura_net.specs.Table.{IsTable, IsEdgeFor}
 use Rattle.uhura_net.specs.Edges.{Edges, edge_at}
 use Rattle.uhura_net.specs.Sums.{sum_below}
 use Rattle.uhura_net.specs.Circulation.{Units, edges_of, units_of, IsBalanced}
-use Rattle.uhura_net.specs.Net.{Carried, IsNetEdge, IsNet, empty_net}
+use Rattle.uhura_net.specs.Net.{NetState, IsNetEdge, IsNet, empty_net}
 use Rattle.uhura_net.proofs.Sums.{sum_below-same}
 
 cond_same : (b : Bool) (n : ℕ) → cond b n n ≡ n
@@ -50,5 +50,5 @@ IsNet-empty edges units no_edges no_units =
     }
 
 pub net-empty : (edges : List (Option Edge)) (units : List ℕ) → edges ≡ replicate PLACES None → units ≡ replicate PLACES 0 →
-    ◌≡◌ {A = Carried} (record { edges = edges; units = units; pushes = 0 }) empty_net
+    ◌≡◌ {A = NetState} (record { edges = edges; units = units; pushes = 0 }) empty_net
 net-empty edges units no_edges no_units = cc

@@ -7,7 +7,7 @@ use Rattle.uhura_net.specs.declared.edge.Edge.{Edge}
 use Rattle.uhura_net.specs.Place.{is_loose}
 use Rattle.uhura_net.specs.Edges.{Edges, no_edge, edge_at, AreKept}
 use Rattle.uhura_net.specs.Sums.{sum_below, int_sum_below}
-use Rattle.uhura_net.specs.Circulation.{Units, IsCirculation, weighed, value_of}
+use Rattle.uhura_net.specs.Circulation.{Units, IsCirculation, weighed_sum, value_of}
 use Rattle.uhura_net.specs.Optimal.{slack_of, below_zero, excess_of, IsOptimalAt, IsOptimal, firm_edges, loose_excess}
 use Rattle.uhura_net.proofs.Scaled.{scaled_parts, scaled-plus, scaled-zero}
 use Rattle.uhura_net.proofs.Sums.{sum_below-same}
@@ -49,9 +49,9 @@ paid_edge edge units potentials within optimal =
 -- the same of the first places
 paid_sum : (places : ℕ) (edges : Edges) (units : Units) (potentials : ℕ → ℤ) → ((place : ℕ) → units place ≤ (edge_at edges place).capacity) →
     IsOptimal edges units potentials →
-    (weighed places edges units (λ edge. edge.bound) +ℤ weighed places edges units (λ edge. potentials edge.from))
+    (weighed_sum places edges units (λ edge. edge.bound) +ℤ weighed_sum places edges units (λ edge. potentials edge.from))
     +ℤ pos (sum_below places (λ place. (edge_at edges place).capacity * excess_of potentials (edge_at edges place)))
-    ≡ weighed places edges units (λ edge. potentials edge.to)
+    ≡ weighed_sum places edges units (λ edge. potentials edge.to)
 unfolding sum_below int_sum_below
 paid_sum zero edges units potentials within optimal = refl
 paid_sum (suc n) edges units potentials within optimal =

@@ -35,13 +35,13 @@ pub record IsCirculation (places : ℕ) (edges : Edges) (units : Units) : Type 0
   pub balanced : IsBalanced places edges units
 
 -- an integer for each edge, times its units, all together
-abbrev pub weighed : ℕ → Edges → Units → (Edge → ℤ) → ℤ
-weighed places edges units weight =
+abbrev pub weighed_sum : ℕ → Edges → Units → (Edge → ℤ) → ℤ
+weighed_sum places edges units weight =
     int_sum_below places (λ place. pos (units place) *ℤ weight (edge_at edges place))
 
 -- the value: minus the sum of the bounds times the units
 abbrev pub value_of : ℕ → Edges → Units → ℤ
-value_of places edges units = neg_ℤ (weighed places edges units (λ edge. edge.bound))
+value_of places edges units = neg_ℤ (weighed_sum places edges units (λ edge. edge.bound))
 
 -- times in k-ths keep an edge but for an allowance
 abbrev pub KeepsWithin : ℕ → (ℕ → ℤ) → ℤ → Edge → Type 0

@@ -9,7 +9,7 @@ use Rattle.uhura_net.specs.Circulation.{edges_of, units_of, IsCirculation, value
 use Rattle.uhura_net.specs.Residual.{residual_walk, IsResidualCycle}
 
 -- the edge at each place, the units that it carries, and how often units were pushed
-pub record Carried : Type 0 where
+pub record NetState : Type 0 where
   pub edges : List (Option Edge)
   pub units : List ℕ
   pub pushes : ℕ
@@ -25,18 +25,18 @@ pub record IsNetEdge (edge : Edge) : Type 0 where
   pub capacity : edge.capacity ≤ FIRM_CAPACITY
 
 -- the units are a circulation over the edges
-abbrev pub Circulates : Carried → Type 0
+abbrev pub Circulates : NetState → Type 0
 Circulates net = IsCirculation PLACES (edges_of net.edges) (units_of net.units)
 
 -- each place has such an edge, or none, and units, which are a circulation
-pub record IsNet (net : Carried) : Type 0 where
+pub record IsNet (net : NetState) : Type 0 where
   pub places : length net.edges ≡ PLACES
   pub counts : length net.units ≡ PLACES
   pub each : (place : ℕ) → IfSome (slice_index_or net.edges place None) IsNetEdge
   pub circulates : Circulates net
 
 -- the value of the circulation
-unfoldable pub net_value : Carried → ℤ
+unfoldable pub net_value : NetState → ℤ
 net_value net = value_of PLACES (edges_of net.edges) (units_of net.units)
 
 -- some units may pass from an edge to another: it has the same nodes and can carry them
@@ -46,22 +46,22 @@ pub record CanTakeOver (old new : Edge) (units : ℕ) : Type 0 where
   pub room : units ≤ new.capacity
 
 -- an edge, or none, may be set at a place that has no units, or where it can take over what is there
-abbrev pub MayBeSet : Carried → ℕ → Option Edge → Type 0
+abbrev pub MayBeSet : NetState → ℕ → Option Edge → Type 0
 MayBeSet net place edge =
     (units_of net.units place ≡ 0)
     ⊎ CanTakeOver (edge_at (edges_of net.edges) place) (unwrap_or edge no_edge)
     (units_of net.units place)
 
 -- a net without an edge
-abbrev pub empty_net : Carried
+abbrev pub empty_net : NetState
 empty_net = record { edges = replicate PLACES None; units = replicate PLACES 0; pushes = 0 }
 
 -- the residual edges of a net at places, each of them walked backward or forward
-abbrev pub net_walk : Carried → List Place → List Bool → List Edge
+abbrev pub net_walk : NetState → List Place → List Bool → List Edge
 net_walk net places backward =
     residual_walk (edges_of net.edges) (units_of net.units) places backward
 
 -- they can carry some more units each, and are a closed walk on which no place stands twice
-abbrev pub IsNetCycle : Carried → List Place → List Bool → ℕ → Type 0
+abbrev pub IsNetCycle : NetState → List Place → List Bool → ℕ → Type 0
 IsNetCycle net places backward amount =
     IsResidualCycle (edges_of net.edges) (units_of net.units) places backward amount

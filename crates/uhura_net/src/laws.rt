@@ -9,7 +9,7 @@ ghost use Rattle.uhura_net.specs.Place.{place_number, HasPlace, StandsAt, is_loo
 ghost use Rattle.uhura_net.specs.Edges.{Edges, edge_at, KeepsAt, AreKeptAt, AreKept};
 ghost use Rattle.uhura_net.specs.Walk.{IsClosedWalk, bounds_of, IsNegativeWalk};
 ghost use Rattle.uhura_net.specs.Sums.{sum_below, int_sum_below};
-ghost use Rattle.uhura_net.specs.Circulation.{Units, IsBalanced, IsCirculation, weighed, value_of, KeepUsedWithin, allowed_to_units, allowed_to_capacities};
+ghost use Rattle.uhura_net.specs.Circulation.{Units, IsBalanced, IsCirculation, weighed_sum, value_of, KeepUsedWithin, allowed_to_units, allowed_to_capacities};
 ghost use Rattle.uhura_net.specs.Optimal.{IsOptimal, firm_edges, loose_excess, ArePlaced, FirmOutweighLoose};
 
 /// Different edges stand at different places, so `key_of` gives back the edge that `place_of` placed. Each stands at
@@ -49,8 +49,8 @@ pub fn balanced_units_cancel_times()
         sum_below places (λ place. units place * count (edge_at edges place).from) }
     ensures times { (places : ℕ) (edges : Edges) (units : Units) (times : ℕ → ℤ) →
         IsBalanced places edges units →
-        weighed places edges units (λ edge. times edge.to) ≡
-        weighed places edges units (λ edge. times edge.from) }
+        weighed_sum places edges units (λ edge. times edge.to) ≡
+        weighed_sum places edges units (λ edge. times edge.from) }
 {}
 
 /// Weak duality at every scale: where times in k-ths keep each edge that has units, but for an allowance, k times the

@@ -21,9 +21,9 @@ pub struct Net {
 }
 
 impl Model for Net {
-    ghost use Rattle.uhura_net.specs.Net.{Carried, IsNet};
+    ghost use Rattle.uhura_net.specs.Net.{NetState, IsNet};
 
-    ghost Value = { Carried };
+    ghost Value = { NetState };
 
     ghost view = { λ net.
         record { edges = net.edges.items; units = net.units.items; pushes = net.pushes } };

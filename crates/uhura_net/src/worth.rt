@@ -2,7 +2,7 @@
 ghost use Rattle.std.specs.Prelude.{◌≡◌, length, pos, ◌*ℤ◌, unwrap_or};
 ghost use Rattle.uhura_net.specs.declared.place.TheConstants.{PLACES};
 ghost use Rattle.uhura_net.specs.Edges.{no_edge};
-ghost use Rattle.uhura_net.specs.Circulation.{edges_of, units_of, weighed};
+ghost use Rattle.uhura_net.specs.Circulation.{edges_of, units_of, weighed_sum};
 ghost use Rattle.uhura_net.specs.Worth.{IsSmallWorth, IsSmall, AreSmall};
 
 use crate::Edge;
@@ -13,7 +13,7 @@ pub(crate) fn worth(edges: &[Option<Edge>], units: &[u64]) -> i128
     requires counts { length units.now ≡ PLACES }
     requires small { AreSmall edges.now units.now }
     ensures worth { result ≡
-        weighed PLACES (edges_of edges.now) (units_of units.now) (λ edge. edge.bound) }
+        weighed_sum PLACES (edges_of edges.now) (units_of units.now) (λ edge. edge.bound) }
     ensures small { IsSmallWorth PLACES result }
 {
     let mut sum = 0;

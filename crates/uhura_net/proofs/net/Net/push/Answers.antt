@@ -1,6 +1,6 @@
 use Rattle.std.proofs.Common.{ℕ, List, sym, subst, ◌∙◌}
 use Rattle.std.proofs.lemmas.List.{with_items_is}
-use Rattle.uhura_net.specs.Net.{Carried}
+use Rattle.uhura_net.specs.Net.{NetState}
 use Rattle.uhura_net.specs.Circulation.{edges_of, units_of}
 use Rattle.uhura_net.specs.Residual.{IsResidualCycle, CanMove}
 use Rattle.uhura_net.proofs.Cycles.{cycle_can_move, IsNetPushed-written}
@@ -8,7 +8,7 @@ use Rattle.uhura_net.proofs.net.Net.push.Goals as goal
 
 pub move_units-requires-clause-room : goal.move_units-requires-clause-room
 move_units-requires-clause-room c =
-    let cycle : Carried → Type 0 = λ net. IsResidualCycle (edges_of net.edges) (units_of net.units) c.args.places.now c.args.backward.now c.args.units in
+    let cycle : NetState → Type 0 = λ net. IsResidualCycle (edges_of net.edges) (units_of net.units) c.args.places.now c.args.backward.now c.args.units in
     let can : List ℕ → Type 0 = λ units. CanMove c.args.places.now c.args.backward.now c.args.units units in
     subst can (sym c.deref_mut.ensures.value)
     (cycle_can_move _ c.args.places.now c.args.backward.now c.args.units c.self.invariant (subst cycle (sym c.self.view_is) c.requires))

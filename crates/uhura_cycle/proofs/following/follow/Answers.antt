@@ -2,7 +2,7 @@ use Rattle.std.proofs.Common.{◌≡◌, ap, slice_index_or, slice_set, w64, ◌
 use Rattle.std.proofs.lemmas.Int.{ints}
 use Rattle.uhura_net.specs.Edges.{time_at}
 use Rattle.uhura_cycle.specs.Steps.{allowed_by}
-use Rattle.uhura_cycle.proofs.relaxing.relax.Goals as goal
+use Rattle.uhura_cycle.proofs.following.follow.Goals as goal
 
 -- the time that is written is what the edge allows, since the sum fits
 pub returns-then-allowed-times : goal.returns-then-allowed-times
