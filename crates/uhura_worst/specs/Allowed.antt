@@ -7,7 +7,7 @@ use Rattle.uhura_choice.specs.Branch.{IsBranch, holds}
 use Rattle.uhura_veto.specs.State.{State}
 use Rattle.uhura_veto.specs.Denial.{is_denied}
 use Rattle.uhura_veto.specs.Room.{requirement_room, duration_room, IsWithinRoom}
-use Rattle.uhura_worst.specs.Proposal.{Proposal, loosened, narrowed, least_left, greatest_left, Meets}
+use Rattle.uhura_worst.specs.Proposal.{Proposal, loosened, narrowed, least_left, greatest_left, CoversAllDurations}
 
 -- a proposal at scale k is allowed in a state
 pub record Allowed (state : State) (k : ℕ) (q : Proposal) : Type 0 where
@@ -27,4 +27,4 @@ pub record Allowed (state : State) (k : ℕ) (q : Proposal) : Type 0 where
   pub ranges_left : (d : ℕ) (u : Uncertain) → slice_get state.plan.uncertains d ≡ Some u →
       least_left k q d u ≤ℤ greatest_left k q d u
   -- the schedule meets the requirements whatever the durations
-  pub meets : Meets state.plan k q
+  pub covers : CoversAllDurations state.plan k q

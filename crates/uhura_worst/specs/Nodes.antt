@@ -4,13 +4,15 @@ use Rattle.uhura_plan.specs.declared.key.EventRef.{EventRef}
 use Rattle.uhura_plan.specs.declared.key.EventRef.TheVariants.{Controllable, End}
 use Rattle.uhura_plan.specs.declared.requirement.Requirement.{Requirement}
 use Rattle.uhura_plan.specs.Limits.{AreWithinLimits}
+use Rattle.uhura_net.specs.declared.place.TheConstants.{DURATIONS}
+use Rattle.uhura_worst.specs.declared.node.TheConstants.{FIRST_OF_ENDS}
 
 -- the nodes of the least and of the greatest end of the duration in place d
 abbrev pub least_end : ℕ → ℕ
-least_end d = 512 + 2 * d
+least_end d = FIRST_OF_ENDS + 2 * d
 
 abbrev pub greatest_end : ℕ → ℕ
-greatest_end d = 513 + 2 * d
+greatest_end d = least_end d + 1
 
 -- a controllable event is a node itself, and the end of a duration is read at its least or at its greatest
 abbrev pub least_node : EventRef → ℕ
@@ -23,8 +25,8 @@ greatest_node (End d) = greatest_end d
 
 -- one of 512 controllable events, or the end of one of 256 durations
 abbrev pub HasNode : EventRef → Type 0
-HasNode (Controllable e) = e < 512
-HasNode (End d) = d < 256
+HasNode (Controllable e) = e < FIRST_OF_ENDS
+HasNode (End d) = d < DURATIONS
 
 -- what the edges of a requirement ask of it, as each requirement of a sound plan has it
 pub record HasNodes (r : Requirement) : Type 0 where
