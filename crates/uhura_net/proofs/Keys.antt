@@ -1,5 +1,5 @@
 -- Each place is that of a key.
-use Rattle.std.proofs.Common.{◌≡◌, ℕ, zero, suc, ◌+◌, ◌-◌, ◌*◌, ◌/◌, ◌%◌, ◌<◌, ◌≤◌, inl, inr, arith}
+use Rattle.std.proofs.Common.{◌≡◌, ℕ, zero, suc, ◌+◌, ◌-◌, ◌*◌, ◌/◌, ◌%◌, ◌<◌, inl, inr, arith}
 use Rattle.std.proofs.lemmas.Bool.{cases_lt}
 use Rattle.uhura_plan.specs.declared.key.Side.TheVariants.{Lower, Upper}
 use Rattle.uhura_plan.specs.declared.key.Item.{Item}
@@ -7,7 +7,7 @@ use Rattle.uhura_plan.specs.declared.key.Item.TheVariants.{Requirement, Uncertai
 use Rattle.uhura_plan.specs.declared.key.EdgeKey.{EdgeKey}
 use Rattle.uhura_plan.specs.declared.key.EdgeKey.TheVariants.{Loose, Firm, Order, Steep}
 use Rattle.uhura_net.specs.declared.place.TheConstants.{PLACES, SLOTS, DURATIONS, FIRST_OF_DURATIONS, FIRST_STEEP}
-use Rattle.uhura_net.specs.Place.{first_place, first_steep_place, place_number, IsPlacedItem, HasPlace, StandsAt}
+use Rattle.uhura_net.specs.Place.{first_place, first_steep_place, IsPlacedItem, StandsAt}
 
 -- the edges of an item's sides stand in the first four rows of its table
 in_row : (item : Item) (row place : ℕ) → IsPlacedItem item → row < 4 → first_place item + row ≡ place → (key : EdgeKey) × StandsAt place key

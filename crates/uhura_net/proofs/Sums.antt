@@ -25,7 +25,7 @@ sum_below-most (suc n) most f less = omega (arith, sum_below-most n most f (λ i
 -- the sum of the terms in front, and of those behind
 pub sum_below-append : (m n : ℕ) (f : ℕ → ℕ) → sum_below (m + n) f ≡ sum_below m f + sum_below n (λ i. f (m + i))
 unfolding sum_below
-sum_below-append m zero f = omega arith
+sum_below-append m zero f = let none : m + 0 ≡ m = omega arith in rw none (omega arith)
 sum_below-append m (suc n) f =
     let next : m + suc n ≡ suc (m + n) = omega arith in
     rw next (omega (arith, sum_below-append m n f))

@@ -1,5 +1,5 @@
 -- What a place may hold.
-use Rattle.std.specs.Prelude.{ℕ, ◌≡◌, ◌≢◌, ◌<◌, ◌≤◌, pos, negsuc, ◌≤ℤ◌, List, Option, None, IfSome, length, slice_index_or}
+use Rattle.std.specs.Prelude.{ℕ, ◌≡◌, ◌≢◌, ◌<◌, pos, negsuc, ◌≤ℤ◌, List, Option, None, IfSome, length, slice_index_or}
 use Rattle.std.specs.Bool.{MatchBool}
 use Rattle.uhura_plan.specs.Limits.{IsUnitPrice}
 use Rattle.uhura_net.specs.declared.edge.TheConstants.{NODES, FIRM_CAPACITY}

@@ -140,8 +140,16 @@ fn steep_key(number: u32) -> EdgeKey
     ensures has_place { HasPlace result }
 {
     let pair = number / 2;
-    let item = if pair < SLOTS { Item::Requirement(pair) } else { Item::Uncertain(pair - SLOTS) };
-    let side = if number % 2 == 0 { Side::Lower } else { Side::Upper };
+    let item = if pair < SLOTS {
+        Item::Requirement(pair)
+    } else {
+        Item::Uncertain(pair - SLOTS)
+    };
+    let side = if number % 2 == 0 {
+        Side::Lower
+    } else {
+        Side::Upper
+    };
     EdgeKey::Steep(SideKey { item, side })
 }
 
@@ -161,8 +169,14 @@ mod tests {
             ),
             (EdgeKey::Firm(side(Item::Uncertain(0), Side::Lower)), 8193),
             (EdgeKey::Order(255), 9471),
-            (EdgeKey::Steep(side(Item::Requirement(7), Side::Lower)), 9486),
-            (EdgeKey::Steep(side(Item::Uncertain(255), Side::Upper)), 14_079),
+            (
+                EdgeKey::Steep(side(Item::Requirement(7), Side::Lower)),
+                9486,
+            ),
+            (
+                EdgeKey::Steep(side(Item::Uncertain(255), Side::Upper)),
+                14_079,
+            ),
         ];
         for (key, number) in table {
             assert_eq!(rt; place_of(key), Place(number));

@@ -1,4 +1,4 @@
-use Rattle.std.proofs.Common.{◌≡◌, ℕ, true, false, refl, ap, ◌∙◌, inl, arith, pos, negsuc}
+use Rattle.std.proofs.Common.{true, false, refl, ap, ◌∙◌, inl, arith, pos, negsuc}
 use Rattle.uhura_net.specs.declared.edge.TheConstants.{FIRM_CAPACITY}
 use Rattle.uhura_net.specs.declared.edge.Edge.{Edge}
 use Rattle.uhura_net.specs.Circulation.{edges_of, units_of}
