@@ -21,7 +21,8 @@ pub record Allowed (state : State) (k : ℕ) (q : Proposal) : Type 0 where
       IsWithinRoom k (requirement_room state.vetoes side r) (loosened q side r)
   pub loosened_active : (side : Side) (r : Requirement) → Contains state.plan.requirements r →
       IsFalse (holds r.guard q.branch) → loosened q side r ≡ 0
-  pub narrowed_within : (side : Side) (d : ℕ) (u : Uncertain) → slice_get state.plan.uncertains d ≡ Some u →
+  pub narrowed_within : (side : Side) (d : ℕ) (u : Uncertain) →
+      slice_get state.plan.uncertains d ≡ Some u →
       IsWithinRoom k (duration_room state.vetoes d side u) (narrowed q side d)
   -- no range left is empty
   pub ranges_left : (d : ℕ) (u : Uncertain) → slice_get state.plan.uncertains d ≡ Some u →

@@ -1,4 +1,5 @@
--- The edges of the worst case: for each side of an item a constraint between two nodes, and the edges that stand for it.
+-- The edges of the worst case: for each side of an item a constraint between two nodes, and the edges that stand for
+-- it.
 use Rattle.std.specs.Prelude.{ℕ, ◌≢◌, ◌<◌, ◌-◌, ℤ, pos, ◌+ℤ◌, neg_ℤ, Bool, true, false, List}
 use Rattle.std.specs.Prelude.{Option, None, Some, option_map, option_and_then, slice_get}
 use Rattle.std.specs.Option.{option_map_or}
@@ -35,14 +36,16 @@ between from to bound = record { from = least_node from; to = greatest_node to; 
 
 -- what a side of a requirement says, where it has a bound
 abbrev pub requirement_constraint : Side → Requirement → Option Constraint
-requirement_constraint Lower r = option_map (λ least. between r.to r.from (neg_ℤ least)) r.lower.bound
+requirement_constraint Lower r =
+    option_map (λ least. between r.to r.from (neg_ℤ least)) r.lower.bound
 requirement_constraint Upper r = option_map (λ most. between r.from r.to most) r.upper.bound
 
 -- what a side of the duration in place d says: its least end comes at most its least length after its start, and its
 -- start at most minus its greatest length after its greatest end
 abbrev pub duration_constraint : Side → ℕ → Uncertain → Constraint
 duration_constraint Lower d u = record { from = u.start; to = least_end d; bound = u.lower }
-duration_constraint Upper d u = record { from = greatest_end d; to = u.start; bound = neg_ℤ u.upper }
+duration_constraint Upper d u =
+    record { from = greatest_end d; to = u.start; bound = neg_ℤ u.upper }
 
 -- its least end comes no later than its greatest
 abbrev pub order_constraint : ℕ → Constraint
@@ -57,8 +60,9 @@ pub record IsSoundConstraint (c : Constraint) : Type 0 where
 
 -- the edge of a constraint as stated, there where the side has a price: its capacity is the first
 abbrev pub loose_edge : Option Rate → Constraint → Option Edge
-loose_edge price c =
-    option_map (λ rate. record { from = c.from; to = c.to; bound = c.bound; capacity = rate.first }) price
+loose_edge price c = option_map
+    (λ rate. record { from = c.from; to = c.to; bound = c.bound; capacity = rate.first })
+    price
 
 -- the edge of a constraint moved by the units that a first price covers: its capacity is what the second is above it
 abbrev pub steep_edge_by : ℕ → Constraint → Second → Edge
@@ -89,17 +93,20 @@ abbrev pub requirement_edge : List Veto → Requirement → EdgeKey → Option E
 requirement_edge vetoes r (Loose key) =
     option_and_then (loose_edge (loosening_rate key.side r)) (requirement_constraint key.side r)
 requirement_edge vetoes r (Firm key) =
-    option_and_then (firm_edge (requirement_room vetoes key.side r)) (requirement_constraint key.side r)
+    option_and_then (firm_edge (requirement_room vetoes key.side r))
+    (requirement_constraint key.side r)
 requirement_edge vetoes r (Steep key) =
     option_and_then (steep_edge (loosening_rate key.side r)) (requirement_constraint key.side r)
 requirement_edge vetoes r (Order d) = None
 
 -- the table of the duration in place d
 abbrev pub duration_edge : List Veto → ℕ → Uncertain → EdgeKey → Option Edge
-duration_edge vetoes d u (Loose key) = loose_edge (rate_of key.side u) (duration_constraint key.side d u)
+duration_edge vetoes d u (Loose key) =
+    loose_edge (rate_of key.side u) (duration_constraint key.side d u)
 duration_edge vetoes d u (Firm key) =
     firm_edge (duration_room vetoes d key.side u) (duration_constraint key.side d u)
-duration_edge vetoes d u (Steep key) = steep_edge (rate_of key.side u) (duration_constraint key.side d u)
+duration_edge vetoes d u (Steep key) =
+    steep_edge (rate_of key.side u) (duration_constraint key.side d u)
 duration_edge vetoes d u (Order e) = firm_edge (Units 0) (order_constraint d)
 
 -- the item whose table has the edge

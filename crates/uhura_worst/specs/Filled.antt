@@ -45,6 +45,7 @@ Puts key edge old new = (other : EdgeKey) → HasPlace other →
     entry_at new other ≡ (if is_same_edge key other then edge else entry_at old other)
 
 -- the new table has these edges at the places of an item, and what the old one had elsewhere
-abbrev pub PutsItem : Item → (EdgeKey → Option Edge) → List (Option Edge) → List (Option Edge) → Type 0
+abbrev pub PutsItem :
+    Item → (EdgeKey → Option Edge) → List (Option Edge) → List (Option Edge) → Type 0
 PutsItem item edges old new = (key : EdgeKey) → HasPlace key →
     entry_at new key ≡ (if is_same_item item (item_of key) then edges key else entry_at old key)

@@ -48,7 +48,8 @@ AreLeft plan k q durations = (d : ℕ) (u : Uncertain) →
 abbrev pub time_of : Lists → Proposal → (ℕ → ℤ) → EventRef → ℤ
 time_of plan q durations (Controllable e) = q.times e
 time_of plan q durations (End d) =
-    unwrap_or (option_map (λ u. q.times u.start) (slice_get plan.uncertains d)) (pos 0) +ℤ durations d
+    unwrap_or (option_map (λ u. q.times u.start) (slice_get plan.uncertains d)) (pos 0)
+    +ℤ durations d
 
 -- a difference of two times lies within the loosened bounds of a requirement, of which either may be missing
 pub record IsWithin (k : ℕ) (q : Proposal) (r : Requirement) (difference : ℤ) : Type 0 where

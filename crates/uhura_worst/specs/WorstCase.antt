@@ -40,7 +40,8 @@ loosened_edge k units c = record {
 pub record MeetsWorstCase (plan : Lists) (k : ℕ) (q : Proposal) (times : ℕ → ℤ) : Type 0 where
   pub requirements : (side : Side) (r : Requirement) → Contains plan.requirements r →
       IsTrue (holds r.guard q.branch) →
-      IfSome (requirement_constraint side r) (λ c. Keeps times (loosened_edge k (loosened q side r) c))
+      IfSome (requirement_constraint side r)
+      (λ c. Keeps times (loosened_edge k (loosened q side r) c))
   pub durations : (side : Side) (d : ℕ) (u : Uncertain) → slice_get plan.uncertains d ≡ Some u →
       Keeps times (loosened_edge k (narrowed q side d) (duration_constraint side d u))
   pub order : (d : ℕ) (u : Uncertain) → slice_get plan.uncertains d ≡ Some u →
@@ -69,15 +70,16 @@ end_time plan k q d is_least = option_map_or
     (λ u. q.times u.start +ℤ (if is_least then least_left k q d u else greatest_left k q d u))
     (slice_get plan.uncertains d) (pos 0)
 
--- the extreme times of a proposal: from 512 on the nodes are ends of durations, the even ones least ends
+-- the extreme times of a proposal: from `FIRST_OF_ENDS` on the nodes are ends of durations, the even ones least ends
 abbrev pub extreme_times : Lists → ℕ → Proposal → ℕ → ℤ
 extreme_times plan k q node = if nat_lt node FIRST_OF_ENDS then q.times node
     else end_time plan k q ((node - FIRST_OF_ENDS) / 2) (nat_eq (node % 2) 0)
 
 -- times at scale k keep each edge that is there, active in the branch and not loose
 abbrev pub KeepsFirmEdges : State → ℕ → List Pick → (ℕ → ℤ) → Type 0
-KeepsFirmEdges state k branch times = (key : EdgeKey) (edge : Edge) → edge_of state key ≡ Some edge →
-    IsFalse (is_loose_key key) → IsTrue (is_active_edge state.plan branch key) → KeepsAt k times edge
+KeepsFirmEdges state k branch times = (key : EdgeKey) (edge : Edge) →
+    edge_of state key ≡ Some edge → IsFalse (is_loose_key key) →
+    IsTrue (is_active_edge state.plan branch key) → KeepsAt k times edge
 
 -- each of these edges is there, active in the branch and not loose
 abbrev pub AreFirmEdges : State → List Pick → Edges → Type 0
@@ -94,16 +96,19 @@ excess (negsuc n) = 0
 abbrev pub passed_by : ℕ → (ℕ → ℤ) → Constraint → ℕ
 passed_by k times c = excess ((times c.to -ℤ times c.from) -ℤ (pos k *ℤ c.bound))
 
--- by how many they pass that of a side: 0 where the side has none, and on requirements that aren't active in the branch
+-- by how many they pass that of a side: 0 where the side has none, and on requirements that aren't active in the
+-- branch
 abbrev pub requirement_passed : ℕ → List Pick → (ℕ → ℤ) → Side → Requirement → ℕ
 requirement_passed k branch times side r =
-    if holds r.guard branch then option_map_or (passed_by k times) (requirement_constraint side r) 0 else 0
+    if holds r.guard branch then option_map_or (passed_by k times) (requirement_constraint side r) 0
+    else 0
 
 abbrev pub passed_in : Lists → ℕ → List Pick → (ℕ → ℤ) → Side → Item → ℕ
 passed_in plan k branch times side (item.Requirement slot) =
     option_map_or (requirement_passed k branch times side) (requirement_in plan slot) 0
 passed_in plan k branch times side (item.Uncertain d) =
-    option_map_or (λ u. passed_by k times (duration_constraint side d u)) (slice_get plan.uncertains d) 0
+    option_map_or (λ u. passed_by k times (duration_constraint side d u))
+    (slice_get plan.uncertains d) 0
 
 -- the proposal that takes these times of nodes: each side is loosened or narrowed by as much as they pass it
 abbrev pub proposal_at : Lists → ℕ → List Pick → (ℕ → ℤ) → Proposal

@@ -2,10 +2,11 @@
 ghost use Rattle.std.specs.Prelude.{◌≡◌, ℕ, ◌<◌, true, false, IfSome};
 ghost use Rattle.uhura_plan.specs.Limits.{IsRate, IsSecond};
 ghost use Rattle.uhura_plan.specs.Sound.{IsSoundUncertain};
-ghost use Rattle.uhura_net.specs.declared.place.TheConstants.{DURATIONS};
-ghost use Rattle.uhura_net.specs.Place.{is_loose};
+ghost use Rattle.uhura_plan.specs.declared.key.Item.TheVariants as item;
+ghost use Rattle.uhura_net.specs.Place.{IsPlacedItem, is_loose};
 ghost use Rattle.uhura_net.specs.Table.{IsEdgeFor};
 ghost use Rattle.uhura_veto.specs.Room.{IsSoundRoom};
+ghost use Rattle.uhura_worst.specs.declared.node.TheConstants.{FIRST_OF_ENDS};
 ghost use Rattle.uhura_worst.specs.Nodes.{HasNode, HasNodes};
 ghost use Rattle.uhura_worst.specs.Edges.{between, requirement_constraint, duration_constraint};
 ghost use Rattle.uhura_worst.specs.Edges.{order_constraint, loose_edge, steep_edge_by, steep_edge, firm_edge};
@@ -45,8 +46,8 @@ impl Constraint {
 
     /// What a side of the duration in this place says.
     pub fn of_duration(side: Side, duration: u32, uncertain: &Uncertain) -> Constraint
-        requires place { duration < DURATIONS }
-        requires sound { IsSoundUncertain 512 uncertain.now }
+        requires place { IsPlacedItem (item.Uncertain duration) }
+        requires sound { IsSoundUncertain FIRST_OF_ENDS uncertain.now }
         ensures constraint { result ≡ duration_constraint side duration uncertain.now }
         ensures sound { IsSoundConstraint result }
     {
@@ -66,7 +67,7 @@ impl Constraint {
 
     /// The least end of the duration in this place comes no later than its greatest.
     pub fn of_order(duration: u32) -> Constraint
-        requires { duration < DURATIONS }
+        requires { IsPlacedItem (item.Uncertain duration) }
         ensures constraint { result ≡ order_constraint duration }
         ensures sound { IsSoundConstraint result }
     {

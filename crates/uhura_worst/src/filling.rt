@@ -2,9 +2,9 @@
 ghost use Rattle.std.specs.Prelude.{◌≡◌, ℕ, ◌<◌, length, None, IfSome, slice_index_or};
 ghost use Rattle.uhura_plan.specs.declared.key.Item.TheVariants as item;
 ghost use Rattle.uhura_plan.specs.Sound.{IsSoundUncertain};
-ghost use Rattle.uhura_net.specs.declared.place.TheConstants.{SLOTS, DURATIONS};
-ghost use Rattle.uhura_net.specs.Place.{place_number, HasPlace};
+ghost use Rattle.uhura_net.specs.Place.{IsPlacedItem, place_number, HasPlace};
 ghost use Rattle.uhura_net.specs.Table.{IsEdgeFor};
+ghost use Rattle.uhura_worst.specs.declared.node.TheConstants.{FIRST_OF_ENDS};
 ghost use Rattle.uhura_worst.specs.Nodes.{HasNodes};
 ghost use Rattle.uhura_worst.specs.Filled.{IsFilledBy, IsTableOf, first_items, Puts, PutsItem};
 
@@ -44,10 +44,8 @@ fn clear(table: &mut EdgeTable)
 /// Puts the edges of all requirements into an empty table.
 fn put_requirements<T: Tables>(table: &mut EdgeTable, plan: &Plan, tables: &T)
     requires { (place : ℕ) → place < PLACES → slice_index_or table.old place None ≡ None }
-    ensures {
-        let requirements = first_items plan.now (length plan.now.requirements) 0 in
-        IsFilledBy (T.tables tables.now) requirements table.new
-    }
+    ensures { let requirements = first_items plan.now (length plan.now.requirements) 0 in
+        IsFilledBy (T.tables tables.now) requirements table.new }
 {
     for position in 0..plan.requirements() {
         put_requirement(table, tables, plan.requirement(position).unwrap());
@@ -56,10 +54,8 @@ fn put_requirements<T: Tables>(table: &mut EdgeTable, plan: &Plan, tables: &T)
 
 /// Puts the edges of all durations into a table of those of the requirements.
 fn put_durations<T: Tables>(table: &mut EdgeTable, plan: &Plan, tables: &T)
-    requires {
-        let requirements = first_items plan.now (length plan.now.requirements) 0 in
-        IsFilledBy (T.tables tables.now) requirements table.old
-    }
+    requires { let requirements = first_items plan.now (length plan.now.requirements) 0 in
+        IsFilledBy (T.tables tables.now) requirements table.old }
     ensures { IsFilledBy (T.tables tables.now) plan.now table.new }
 {
     for duration in 0..plan.uncertains() {
@@ -69,12 +65,10 @@ fn put_durations<T: Tables>(table: &mut EdgeTable, plan: &Plan, tables: &T)
 
 /// Puts the edges of a requirement.
 fn put_requirement<T: Tables>(table: &mut EdgeTable, tables: &T, requirement: &Requirement)
-    requires slot { requirement.now.slot < SLOTS }
+    requires slot { IsPlacedItem (item.Requirement requirement.now.slot) }
     requires nodes { HasNodes requirement.now }
-    ensures {
-        let edges = (T.tables tables.now).of_requirement requirement.now in
-        PutsItem (item.Requirement requirement.now.slot) edges table.old table.new
-    }
+    ensures { let edges = (T.tables tables.now).of_requirement requirement.now in
+        PutsItem (item.Requirement requirement.now.slot) edges table.old table.new }
 {
     let item = Item::Requirement(requirement.slot);
     let lower = SideKey {
@@ -102,9 +96,7 @@ fn put_requirement_edge<T: Tables>(
 )
     requires nodes { HasNodes requirement.now }
     requires placed { HasPlace key }
-    ensures {
-        Puts key ((T.tables tables.now).of_requirement requirement.now key) table.old table.new
-    }
+    ensures { Puts key ((T.tables tables.now).of_requirement requirement.now key) table.old table.new }
 {
     let edge = tables.requirement_edge(requirement, key);
     put(table, key, edge);
@@ -112,12 +104,10 @@ fn put_requirement_edge<T: Tables>(
 
 /// Puts the edges of the duration in this place.
 fn put_duration<T: Tables>(table: &mut EdgeTable, tables: &T, duration: u32, uncertain: &Uncertain)
-    requires place { duration < DURATIONS }
-    requires sound { IsSoundUncertain 512 uncertain.now }
-    ensures {
-        let edges = (T.tables tables.now).of_duration duration uncertain.now in
-        PutsItem (item.Uncertain duration) edges table.old table.new
-    }
+    requires place { IsPlacedItem (item.Uncertain duration) }
+    requires sound { IsSoundUncertain FIRST_OF_ENDS uncertain.now }
+    ensures { let edges = (T.tables tables.now).of_duration duration uncertain.now in
+        PutsItem (item.Uncertain duration) edges table.old table.new }
 {
     let item = Item::Uncertain(duration);
     let lower = SideKey {
@@ -145,12 +135,10 @@ fn put_duration_edge<T: Tables>(
     uncertain: &Uncertain,
     key: EdgeKey,
 )
-    requires place { duration < DURATIONS }
-    requires sound { IsSoundUncertain 512 uncertain.now }
+    requires place { IsPlacedItem (item.Uncertain duration) }
+    requires sound { IsSoundUncertain FIRST_OF_ENDS uncertain.now }
     requires placed { HasPlace key }
-    ensures {
-        Puts key ((T.tables tables.now).of_duration duration uncertain.now key) table.old table.new
-    }
+    ensures { Puts key ((T.tables tables.now).of_duration duration uncertain.now key) table.old table.new }
 {
     let edge = tables.duration_edge(duration, uncertain, key);
     put(table, key, edge);

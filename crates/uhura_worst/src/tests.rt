@@ -7,7 +7,9 @@ use std::alloc::Global;
 use std::process::Abort;
 use std::test::Fail;
 use uhura_net::{Edge, EdgeTable, place_of};
-use uhura_plan::{Bounded, EdgeKey, EditRefusal, Item, Name, Plan, Price, Side, SideKey};
+use uhura_plan::{
+    Bounded, EdgeKey, EditRefusal, Item, Name, Plan, Price, Rate, Second, Side, SideKey,
+};
 use uhura_veto::rooms::room;
 use uhura_veto::{Room, Vetoes};
 
@@ -15,30 +17,38 @@ fn name(rt: &impl Abort, text: &str) -> Name {
     Name::read(text.as_bytes()).expect(rt, "a name")
 }
 
-// At most 15, or up to 7 more at 2 each.
+/// At most 15, or up to 4 more at 2 each and 3 more at 5 each.
 fn at_most() -> Bounded
     ensures { AreWithinLimits result }
 {
-    let (rate, most) = (2, Some(7));
+    let second = Second { after: 4, rate: 5 };
     Bounded {
         bound: Some(15),
-        price: Some(Price { rate, most }),
+        price: Some(Price {
+            rate: 2,
+            second: Some(second),
+            most: Some(7),
+        }),
     }
 }
 
-// A duration of 10 to 20 that may be cut, and a requirement on its end.
+/// A duration of 10 to 20 that may be cut, and a requirement on its end.
 fn small_plan(rt: &impl Abort, alloc: Global) -> Result<Plan, EditRefusal> {
     let mut plan = Plan::new(alloc)?;
     let (s, e) = (name(rt, "s"), name(rt, "e"));
     plan.add_event(s)?;
-    plan.add_uncertain(name(rt, "d"), s, e, 10, 20, None, Some(3))?;
+    let rate = Rate {
+        first: 3,
+        second: None,
+    };
+    plan.add_uncertain(name(rt, "d"), s, e, 10, 20, None, Some(rate))?;
     let (bound, price) = (None, None);
     let none = Bounded { bound, price };
     plan.add_requirement(name(rt, "r"), s, e, none, at_most(), &[])?;
     Ok(plan)
 }
 
-// The edge of the key, and what the table holds at its place.
+/// The edge of the key, and what the table holds at its place.
 fn both(plan: &Plan, vetoes: &Vetoes, table: &EdgeTable, key: EdgeKey) -> [Option<Edge>; 2]
     requires { HasPlace key }
 {
@@ -87,5 +97,13 @@ fn fills_a_table_with_edges(rt: HostRuntime) -> Result<(), Fail> {
         capacity: 10_000_000_000,
     };
     assert_eq!(rt; both(&plan, &vetoes, &table, later), [Some(moved); 2]);
+    let steep = EdgeKey::Steep(SideKey { item: r, side });
+    let past = Edge {
+        from: 0,
+        to: 513,
+        bound: 19,
+        capacity: 3,
+    };
+    assert_eq!(rt; both(&plan, &vetoes, &table, steep), [Some(past); 2]);
     Ok(())
 }
