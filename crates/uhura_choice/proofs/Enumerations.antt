@@ -1,5 +1,5 @@
 -- All branches of some choices, in order, which are a walk.
-use Rattle.std.proofs.Common.{◌≡◌, ℕ, ◌+◌, ◌<◌, ◌≤◌, List, [], ◌∷◌, ◌++◌, inl, inr, ap, sym, subst, refl, ◌∙◌, arith, suc, zero, get_or, length, map}
+use Rattle.std.proofs.Common.{◌≡◌, ℕ, ◌<◌, List, [], ◌∷◌, ◌++◌, inl, inr, ap, sym, subst, refl, ◌∙◌, arith, suc, zero, get_or, length, map}
 use Rattle.std.proofs.lemmas.Bool.{cases_Bool, cases_order, both_ways}
 use Rattle.std.proofs.lemmas.List.{length-map, get_or-map}
 use Rattle.std.proofs.lemmas.List.Elements.{All-nil, All-cons, All-append, All-map, Contains-append_left, Contains-append_right}
@@ -9,7 +9,7 @@ use Rattle.uhura_plan.specs.declared.choice.Choice.{Choice}
 use Rattle.uhura_choice.specs.declared.prefix.Pick.{Pick}
 use Rattle.uhura_choice.specs.declared.prefix.Pick.TheVariants.{Alternative, Inactive}
 use Rattle.uhura_choice.specs.Branch.{holds, Follows, IsEarlier, IsBranch}
-use Rattle.uhura_choice.specs.Walk.{IsFirstBranch, IsNextBranch, GoesOn, IsWalk}
+use Rattle.uhura_choice.specs.Walk.{GoesOn, IsWalk}
 use Rattle.uhura_choice.proofs.Earlier.{earlier-irreflexive, earlier-trans, earlier-behind}
 use Rattle.uhura_choice.proofs.Prefixes.{HaveAlternatives, go-on}
 
@@ -189,7 +189,7 @@ goes-on cs branch (next ∷ later) only order every = (
     nothing_between = λ other is after. place other (every other is after);
   },
   goes-on cs next later (λ k d below. only (suc k) d (omega arith)) (order-tail branch (next ∷ later) order)
-  (λ other is after. further other after (every other is (earlier-trans branch next other (order-head branch (next ∷ later) order 0 next (omega arith)) after))),
+      (λ other is after. further other after (every other is (earlier-trans branch next other (order-head branch (next ∷ later) order 0 next (omega arith)) after))),
 )
   where
     place : (other : List Pick) → Contains (next ∷ later) other → (other ≡ next) ⊎ IsEarlier next other
