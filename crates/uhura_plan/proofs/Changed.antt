@@ -1,5 +1,5 @@
 -- The tables with one item changed hold the plan with the change.
-use Rattle.std.proofs.Common.{◌≡◌, ℕ, List, length, map, take, Option, None, Some, option_map, slice_get, bytes_eq, All, if◌then◌else◌, refl, sym, ap, subst, ◌∙◌, arith}
+use Rattle.std.proofs.Common.{◌≡◌, ℕ, List, length, map, take, Option, None, Some, option_map, slice_get, All, refl, sym, ap, subst, ◌∙◌, arith}
 use Rattle.std.specs.Map.{values_of}
 use Rattle.indexmap.specs.Layout.{set_value_at}
 use Rattle.std.proofs.lemmas.List.{take-map}
@@ -11,7 +11,8 @@ use Rattle.uhura_plan.specs.Lists.{Lists, choice_names}
 use Rattle.uhura_plan.specs.Sound.{IsName, AreDistinct, IsGuardAmong, IsSoundUncertain, IsSoundChoice, IsSoundRequirement}
 use Rattle.uhura_plan.specs.Tables.{lists_of, HoldsPlan}
 use Rattle.uhura_plan.specs.Changes.{change_requirement, change_uncertain, change_choice}
-use Rattle.uhura_plan.proofs.Kept.{alternative_counts, IsGuardAmong-kept, AreSoundChoices, IsSound-kept}
+use Rattle.uhura_plan.proofs.Kept.{alternative_counts, IsLiteralAmong-kept, AreSoundChoices, IsSound-kept}
+use Rattle.uhura_plan.proofs.More.{IsGuardAmong-more}
 use Rattle.uhura_plan.proofs.Named.{Changes, changed, map_kept, keys-set_value_at, values_changed, parts_kept, all_kept, still_named}
 use Rattle.uhura_plan.proofs.StaysSound.{RequirementStays, UncertainStays, ChoiceStays, same_count}
 
@@ -31,7 +32,9 @@ module _ (change : Choice → Choice) (stays : (c : Choice) → ChoiceStays c (c
         names = subst (All IsName) (sym kept.names) sound.names;
         distinct = subst AreDistinct (sym kept.names) sound.distinct;
         costs = kept.costs sound.costs;
-        guard = IsGuardAmong-kept earlier (map change earlier) (same_counts earlier) (change choice).guard (subst (IsGuardAmong earlier) (sym kept.guard) sound.guard);
+        guard =
+            IsGuardAmong-more earlier (map change earlier) (IsLiteralAmong-kept earlier (map change earlier) (same_counts earlier)) (change choice).guard
+            (subst (IsGuardAmong earlier) (sym kept.guard) sound.guard);
       }
 
   -- so does that at each place

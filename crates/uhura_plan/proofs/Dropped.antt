@@ -1,10 +1,10 @@
 -- The tables without a requirement hold the plan without it.
-use Rattle.std.proofs.Common.{◌≡◌, ◌≢◌, ℕ, ◌<◌, Bool, List, [], ◌∷◌, get_or, map, filter, not, length, Some, position, bytes_eq, AllPairs, refl, sym, ap, subst, ◌∙◌, arith}
+use Rattle.std.proofs.Common.{◌≡◌, ◌≢◌, ℕ, ◌<◌, Bool, List, [], ◌∷◌, get_or, map, filter, not, length, Some, position, bytes_eq, AllPairs, sym, ap, subst, ◌∙◌, arith}
 use Rattle.std.specs.List.{remove}
 use Rattle.std.specs.Map.{keys_of, values_of}
 use Rattle.indexmap.proofs.SetLemmas.{map-remove}
 use Rattle.std.proofs.lemmas.List.{length-map, get_or-map}
-use Rattle.std.proofs.lemmas.List.Elements.{All-weaker, All-filter}
+use Rattle.std.proofs.lemmas.List.Elements.{All-filter}
 use Rattle.std.proofs.lemmas.List.Kept.{AllPairs-filter}
 use Rattle.std.proofs.lemmas.List.Sums.{length-filter, count_by-le-length}
 use Rattle.std.proofs.lemmas.Map.Made.{AllPairs-from_IsDistinct, IsDistinct-from_AllPairs}
@@ -16,7 +16,7 @@ use Rattle.uhura_plan.specs.Lists.{Lists}
 use Rattle.uhura_plan.specs.Sound.{IsSoundRequirement, IsSound}
 use Rattle.uhura_plan.specs.Tables.{lists_of, HoldsPlan}
 use Rattle.uhura_plan.specs.Changes.{without_requirement}
-use Rattle.uhura_plan.proofs.Kept.{IsSoundRequirement-kept}
+use Rattle.uhura_plan.proofs.More.{stay_sound}
 use Rattle.uhura_plan.proofs.Named.{removed_named}
 
 -- what holds of each two images holds of each two elements by their images
@@ -65,7 +65,7 @@ IsSound-filtered plan keep sound = record {
   uncertains = sound.uncertains;
   choices = sound.choices;
   requirements =
-      All-weaker _ _ (IsSoundRequirement-kept plan (record plan { requirements = filter keep plan.requirements }) (record { events = refl; uncertains = refl; alternatives = refl }))
+      stay_sound plan (record plan { requirements = filter keep plan.requirements }) (record { events = omega arith; uncertains = omega arith; literals = λ _ among. among })
       (filter keep plan.requirements) (All-filter keep (IsSoundRequirement plan) plan.requirements sound.requirements);
 }
 

@@ -1,16 +1,14 @@
--- What names events, choices and alternatives by place stays sound where their numbers stay.
-use Rattle.std.proofs.Common.{◌≡◌, ◌≢◌, ℕ, ◌*◌, ◌<◌, List, length, map, fold, take, Option, None, Some, option_map, slice_get, IsSomeAnd, All, AllPairs, Contains, refl, sym, ap, subst, ◌∙◌, arith}
+-- A plan stays sound where its items change and keep their names, slots and numbers of alternatives.
+use Rattle.std.proofs.Common.{◌≡◌, ◌≢◌, ℕ, ◌*◌, ◌<◌, List, length, map, fold, take, Option, None, Some, option_map, slice_get, IsSomeAnd, All, AllPairs, Contains, sym, ap, subst, ◌∙◌, arith}
 use Rattle.std.proofs.lemmas.List.{length-map}
 use Rattle.std.proofs.lemmas.List.Folds.{fold-map}
-use Rattle.std.proofs.lemmas.List.Elements.{All-weaker}
 use Rattle.std.proofs.lemmas.Option.{slice_get-map}
-use Rattle.uhura_plan.specs.declared.key.EventRef.{EventRef}
-use Rattle.uhura_plan.specs.declared.guard.Literal.{Literal}
 use Rattle.uhura_plan.specs.declared.uncertain.Uncertain.{Uncertain}
 use Rattle.uhura_plan.specs.declared.choice.Choice.{Choice}
 use Rattle.uhura_plan.specs.declared.requirement.Requirement.{Requirement}
 use Rattle.uhura_plan.specs.Lists.{Lists, end_names, uncertain_names, choice_names, requirement_names, slots}
-use Rattle.uhura_plan.specs.Sound.{AreDistinct, IsEventAmong, IsLiteralAmong, IsGuardAmong, IsSoundUncertain, IsSoundChoice, IsSoundRequirement, IsSound, alternatives_product}
+use Rattle.uhura_plan.specs.Sound.{AreDistinct, IsSoundUncertain, IsSoundChoice, IsSoundRequirement, IsSound, alternatives_product}
+use Rattle.uhura_plan.proofs.More.{KeepsLiterals, HasNoFewer, stay_sound}
 
 -- the numbers of alternatives of the choices
 abbrev pub alternative_counts : List Choice → List ℕ
@@ -26,43 +24,14 @@ of_count alternative None there = there
 of_count alternative (Some c) there = there
 
 module _ (old new : List Choice) (same : alternative_counts new ≡ alternative_counts old) where
-  -- a literal stays one of the choices
-  IsLiteralAmong-kept : (literal : Literal) → IsLiteralAmong old literal → IsLiteralAmong new literal
+  -- a literal stays one about the choices
+  pub IsLiteralAmong-kept : KeepsLiterals old new
   IsLiteralAmong-kept literal among =
       let Has : Option ℕ → Type 0 = λ n. IsSomeAnd n (λ n. literal.alternative < n) in
       let counts : slice_get (alternative_counts old) literal.choice ≡ slice_get (alternative_counts new) literal.choice = ap (λ ns. slice_get ns literal.choice) (sym same) in
       of_count literal.alternative (slice_get new literal.choice)
       (subst Has (sym (slice_get-map _ old literal.choice) ∙ (counts ∙ slice_get-map _ new literal.choice))
       (counted literal.alternative (slice_get old literal.choice) among))
-
-  -- a guard stays one of the choices
-  pub IsGuardAmong-kept : (guard : List Literal) → IsGuardAmong old guard → IsGuardAmong new guard
-  IsGuardAmong-kept guard sound = record { among = All-weaker _ _ IsLiteralAmong-kept guard sound.among; once = sound.once }
-
--- the new plan has as many events, durations and alternatives as the old one
-pub record KeepsNumbers (old new : Lists) : Type 0 where
-  pub events : length new.events ≡ length old.events
-  pub uncertains : length new.uncertains ≡ length old.uncertains
-  pub alternatives : alternative_counts new.choices ≡ alternative_counts old.choices
-
-module _ (old new : Lists) (keeps : KeepsNumbers old new) where
-  IsEventAmong-kept : (event : EventRef) → IsEventAmong (length old.events) (length old.uncertains) event → IsEventAmong (length new.events) (length new.uncertains) event
-  IsEventAmong-kept event among =
-      subst (λ n. IsEventAmong n (length new.uncertains) event) (sym keeps.events) (subst (λ n. IsEventAmong (length old.events) n event) (sym keeps.uncertains) among)
-
-  -- a requirement stays sound
-  pub IsSoundRequirement-kept : (requirement : Requirement) → IsSoundRequirement old requirement → IsSoundRequirement new requirement
-  IsSoundRequirement-kept requirement sound = record {
-    name = sound.name;
-    slot = sound.slot;
-    from = IsEventAmong-kept requirement.from sound.from;
-    to = IsEventAmong-kept requirement.to sound.to;
-    two_events = sound.two_events;
-    lower = sound.lower;
-    upper = sound.upper;
-    ordered = sound.ordered;
-    guard = IsGuardAmong-kept old.choices new.choices keeps.alternatives requirement.guard sound.guard;
-  }
 
 -- lists of one image are of one length
 same_length : {X Y Z : Type 0} (f : X → Z) (g : Y → Z) (xs : List X) (ys : List Y) → map f xs ≡ map g ys → length xs ≡ length ys
@@ -102,7 +71,8 @@ module _ (plan : Lists) (uncertains : List Uncertain) (choices : List Choice) (r
       let more : length uncertains ≡ length plan.uncertains = same_length _ _ uncertains plan.uncertains keeps.uncertains in
       let product : alternatives_product choices ≡ alternatives_product plan.choices =
       product_of_counts choices ∙ (ap (fold (λ n count. n * count) 1) keeps.alternatives ∙ sym (product_of_counts plan.choices)) in
-      let numbers : KeepsNumbers plan with_items = record { events = refl; uncertains = more; alternatives = keeps.alternatives } in
+      let no_fewer : HasNoFewer plan with_items =
+      record { events = omega arith; uncertains = omega (arith, more); literals = IsLiteralAmong-kept plan.choices choices keeps.alternatives } in
       record {
         counts = record {
           events = omega (arith, more, sound.counts.events);
@@ -123,5 +93,5 @@ module _ (plan : Lists) (uncertains : List Uncertain) (choices : List Choice) (r
         events = sound.events;
         uncertains = items.uncertains;
         choices = items.choices;
-        requirements = All-weaker _ _ (IsSoundRequirement-kept plan with_items numbers) requirements items.requirements;
+        requirements = stay_sound plan with_items no_fewer requirements items.requirements;
       }

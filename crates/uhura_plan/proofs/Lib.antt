@@ -8,6 +8,7 @@ pub mod Guards
 pub mod Insertions
 pub mod Kept
 pub mod Literals
+pub mod More
 pub mod Named
 pub mod Names
 pub mod Positions

@@ -4,7 +4,7 @@ use Rattle.std.specs.Map.{values_of}
 use Rattle.std.specs.Cmp.Lexicographic.{nat_list_eq_equiv}
 use Rattle.indexmap.specs.IndexMap.{insert_entry}
 use Rattle.std.proofs.lemmas.List.{length_push, map_push}
-use Rattle.std.proofs.lemmas.List.Elements.{All-push, All-weaker, Contains-get_or}
+use Rattle.std.proofs.lemmas.List.Elements.{All-push, Contains-get_or}
 use Rattle.std.proofs.lemmas.List.Quantifiers.{all_pairs_push}
 use Rattle.std.proofs.lemmas.Map.Keys.{IsDistinct-push}
 use Rattle.std.proofs.lemmas.Slice.Eq.{bytes_eq-Decides}
@@ -23,6 +23,7 @@ use Rattle.uhura_plan.specs.Refusals.{requirement_refusal}
 use Rattle.uhura_plan.proofs.Positions.{none_passes}
 use Rattle.uhura_plan.proofs.Insertions.{values_added, keys_added}
 use Rattle.uhura_plan.proofs.Finds.{event_among, same_event}
+use Rattle.uhura_plan.proofs.More.{stay_sound}
 use Rattle.uhura_plan.proofs.Refusals.{unrefused_requirement}
 
 -- bounds stay in order where they are named anew
@@ -54,20 +55,6 @@ module _ (plan : Lists) (name from to : List ℕ) (lower upper : Bounded) (guard
             (λ k d within same. stated.least_slot.free (subst (Contains (slots plan.requirements)) same (Contains-get_or (slots plan.requirements) k d within)))))
             i j d before within;
       }
-
-  -- an earlier requirement stays sound
-  IsSoundRequirement-earlier : (requirement : Requirement) → IsSoundRequirement plan requirement → IsSoundRequirement (with_requirement plan made) requirement
-  IsSoundRequirement-earlier requirement old = record {
-    name = old.name;
-    slot = old.slot;
-    from = old.from;
-    to = old.to;
-    two_events = old.two_events;
-    lower = old.lower;
-    upper = old.upper;
-    ordered = old.ordered;
-    guard = old.guard;
-  }
 
   module _ (named : IsName name) (within_lower : AreWithinLimits lower) (within_upper : AreWithinLimits upper) (among : IsGuardAmong plan.choices made.guard) (below : made.slot < REQUIREMENTS) where
     -- the requirement made is sound
@@ -106,7 +93,8 @@ module _ (plan : Lists) (name from to : List ℕ) (lower upper : Bounded) (guard
           choices = sound.choices;
           requirements =
               All-push (IsSoundRequirement (with_requirement plan made)) plan.requirements made
-              (All-weaker _ _ IsSoundRequirement-earlier plan.requirements sound.requirements) IsSoundRequirement-made;
+              (stay_sound plan (with_requirement plan made) (record { events = omega arith; uncertains = omega arith; literals = λ _ among. among }) plan.requirements sound.requirements)
+              IsSoundRequirement-made;
         }
 
 module _ (events : List (List ℕ)) (uncertains : List (List ℕ × Uncertain)) (choices : List (List ℕ × Choice)) (entries : List (List ℕ × Requirement)) (plan : Lists) (inserted : List (List ℕ × Requirement))

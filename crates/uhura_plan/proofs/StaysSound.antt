@@ -1,5 +1,5 @@
 -- An item stays sound with what an edit changes in it, and keeps its names and its slot.
-use Rattle.std.proofs.Common.{◌≡◌, ℕ, ℤ, Bool, true, false, List, length, map, Option, None, Some, bytes_eq, All, IfSome, if◌then◌else◌, refl, sym, ap, subst, ◌∙◌, w64, rules, arith}
+use Rattle.std.proofs.Common.{◌≡◌, ℕ, ℤ, Bool, true, false, List, length, Option, None, Some, bytes_eq, All, IfSome, if◌then◌else◌, refl, sym, ap, ◌∙◌, w64, rules}
 use mir.Val.{SFits, to_z, of_z}
 use Rattle.std.proofs.lemmas.Int.{to_z-of_z}
 use Rattle.std.proofs.lemmas.List.{length-map}
@@ -16,7 +16,7 @@ use Rattle.uhura_plan.specs.Lists.{Lists, alternative_names}
 use Rattle.uhura_plan.specs.Limits.{IsBound, IsRangeEnd, IsRate, IsPrice, IsAmount, AreWithinLimits, AreOrdered}
 use Rattle.uhura_plan.specs.Sides.{bounded_of}
 use Rattle.uhura_plan.specs.Sound.{IsSoundUncertain, IsSoundRequirement}
-use Rattle.uhura_plan.specs.Changes.{on_side, with_bound, with_price, with_rate, with_range, costs_with, with_cost}
+use Rattle.uhura_plan.specs.Changes.{on_side, with_bound, with_price, with_rate, with_range, with_cost}
 use Rattle.uhura_plan.specs.Refusals.{empty_between, empty_bounds}
 use Rattle.uhura_plan.proofs.Refusals.{bounds_ordered}
 use Rattle.uhura_plan.proofs.Named.{map_kept}

@@ -85,19 +85,3 @@ pub struct Choice {
     pub alternatives: Alternatives,
     pub guard: Guard,
 }
-
-#[cfg(test)]
-mod tests {
-    use super::*;
-    use std::test::Fail;
-
-    #[test]
-    fn keeps_the_alternatives(rt: HostRuntime) -> Result<(), Fail> {
-        let name = Name::read(b"cinema".as_slice())?;
-        let mut pairs = Vec::new(rt.alloc());
-        pairs.push((name, 30))?;
-        let alternatives = Alternatives::from_vec(pairs);
-        assert_eq!(rt; alternatives.as_slice(), [(name, 30)].as_slice());
-        Ok(())
-    }
-}

@@ -1,5 +1,5 @@
 -- The alternative of the name gets the cost at its place.
-use Rattle.std.proofs.Common.{◌≡◌, length, map, slice_get, Some, bytes_eq, refl, sym, ap, subst, ◌∙◌, arith}
+use Rattle.std.proofs.Common.{◌≡◌, length, map, Some, refl, sym, ap, subst, ◌∙◌, arith}
 use Rattle.std.proofs.lemmas.List.{length-map}
 use Rattle.std.proofs.lemmas.Option.{slice_get_read}
 use Rattle.uhura_plan.specs.Find.{place_of}
