@@ -99,7 +99,7 @@ loose_most_at None place sound = no_capacity (is_loose place)
 loose_most_at (Some edge) place sound = loose_most (is_loose place) edge.capacity (sound edge refl).capacity
 
 -- so the loose edges can carry 9,216,000,000 together
-loose_capacity_most : (edges : Edges) → ArePlaced edges → loose_capacity PLACES edges ≤ 4 * (REQUIREMENTS + UNCERTAINS) * UNIT_PRICE
+pub loose_capacity_most : (edges : Edges) → ArePlaced edges → loose_capacity PLACES edges ≤ 4 * (REQUIREMENTS + UNCERTAINS) * UNIT_PRICE
 loose_capacity_most edges placed =
     counts_most (λ p. cond (is_loose p) (edge_at edges p).capacity 0) (record {
       most = λ p. loose_most_at (edges p) p (λ e at. (placed p e at).1);

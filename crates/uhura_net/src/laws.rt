@@ -1,6 +1,7 @@
 //! What follows from the definitions: each contract is a law, and the bodies are empty.
-ghost use Rattle.std.specs.Prelude.{◌≡◌, ℕ, ◌*◌, ◌<◌, ◌≤◌, ℤ, pos, ◌*ℤ◌, ◌≤ℤ◌, List};
+ghost use Rattle.std.specs.Prelude.{◌≡◌, ℕ, ◌+◌, ◌*◌, ◌<◌, ◌≤◌, ℤ, pos, ◌*ℤ◌, ◌≤ℤ◌, List};
 ghost use Rattle.std.specs.List.{All};
+ghost use Rattle.uhura_plan.specs.declared.limits.TheConstants.{REQUIREMENTS, UNCERTAINS, UNIT_PRICE};
 ghost use Rattle.uhura_plan.specs.declared.key.EdgeKey.{EdgeKey};
 ghost use Rattle.uhura_net.specs.declared.edge.Edge.{Edge};
 ghost use Rattle.uhura_net.specs.declared.place.TheConstants.{PLACES};
@@ -10,7 +11,7 @@ ghost use Rattle.uhura_net.specs.Edges.{Edges, edge_at, KeepsAt, AreKeptAt, AreK
 ghost use Rattle.uhura_net.specs.Walk.{IsClosedWalk, bounds_of, IsNegativeWalk};
 ghost use Rattle.uhura_net.specs.Sums.{sum_below, int_sum_below};
 ghost use Rattle.uhura_net.specs.Circulation.{Units, IsBalanced, IsCirculation, weighed_sum, value_of, KeepUsedWithin, allowed_to_units, allowed_to_capacities};
-ghost use Rattle.uhura_net.specs.Optimal.{IsOptimal, firm_edges, loose_excess, ArePlaced, FirmOutweighLoose};
+ghost use Rattle.uhura_net.specs.Optimal.{IsOptimal, firm_edges, loose_capacity, loose_excess, ArePlaced, FirmOutweighLoose};
 
 /// Different edges stand at different places, so `key_of` gives back the edge that `place_of` placed. Each stands at
 /// one of the places, and each place is that of an edge.
@@ -87,7 +88,10 @@ pub fn optimal_circulations_are_paid_by_loose_edges()
         AreKept (firm_edges edges) potentials }
 {}
 
-/// Of edges that stand where they may, each that isn't loose can carry more than all loose ones together.
+/// Of edges that stand where they may, each that isn't loose can carry more than all loose ones together: those of two
+/// sides of each item, once as stated and once steep, can carry a price each.
 pub fn firm_edges_outweigh_loose_ones()
-    ensures { (edges : Edges) → ArePlaced edges → FirmOutweighLoose PLACES edges }
+    ensures loose { (edges : Edges) → ArePlaced edges →
+        loose_capacity PLACES edges ≤ 4 * (REQUIREMENTS + UNCERTAINS) * UNIT_PRICE }
+    ensures firm { (edges : Edges) → ArePlaced edges → FirmOutweighLoose PLACES edges }
 {}
