@@ -5,7 +5,6 @@ pub mod Duality
 mod Empty
 pub mod Firm
 pub mod Keys
-mod Loops
 mod Moves
 pub mod Outweighing
 pub mod Paying

@@ -10,8 +10,6 @@ mod moving;
 mod net;
 mod place;
 mod table;
-#[cfg(test)]
-mod tests;
 mod worth;
 
 pub use edge::{Edge, FIRM_CAPACITY, NODES};

@@ -146,35 +146,3 @@ fn steep_key(number: u32) -> EdgeKey
     };
     EdgeKey::Steep(SideKey { item, side })
 }
-
-#[cfg(test)]
-mod tests {
-    use super::*;
-
-    #[test]
-    fn places_edges_by_item_and_row(rt: HostRuntime) {
-        let side = |item, side| SideKey { item, side };
-        let table: [(EdgeKey, u32); 7] = [
-            (EdgeKey::Loose(side(Item::Requirement(0), Side::Lower)), 0),
-            (EdgeKey::Firm(side(Item::Requirement(7), Side::Upper)), 31),
-            (
-                EdgeKey::Loose(side(Item::Requirement(2047), Side::Upper)),
-                8190,
-            ),
-            (EdgeKey::Firm(side(Item::Uncertain(0), Side::Lower)), 8193),
-            (EdgeKey::Order(255), 9471),
-            (
-                EdgeKey::Steep(side(Item::Requirement(7), Side::Lower)),
-                9486,
-            ),
-            (
-                EdgeKey::Steep(side(Item::Uncertain(255), Side::Upper)),
-                14_079,
-            ),
-        ];
-        for (key, number) in table {
-            assert_eq!(rt; place_of(key), Place(number));
-            assert_eq!(rt; key_of(Place(number)), key);
-        }
-    }
-}
