@@ -17,6 +17,3 @@ pub use guarded::{active, holds};
 pub use order::compare;
 pub use prefix::{Branch, Pick, Prefix};
 pub use walk::{first_branch, next_branch};
-
-#[cfg(test)]
-mod tests;
