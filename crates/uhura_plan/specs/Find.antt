@@ -42,9 +42,9 @@ requirement_in plan slot = find (λ r. r.slot == slot) plan.requirements
 -- the literal that the names of a choice and of one of its alternatives spell
 abbrev pub literal_named : Lists → List ℕ × List ℕ → Option Literal
 literal_named plan names =
+    let named = λ (c : ℕ). alternative_named plan c names.1 in
     option_and_then
-    (λ c.
-    option_map (λ a. record { choice = c; alternative = a }) (alternative_named plan c names.1))
+    (λ c. option_map (λ a. record { choice = c; alternative = a }) (named c))
     (choice_named plan names.0)
 
 -- the requirement of this name

@@ -31,7 +31,8 @@ impl Plan {
     ) -> Result<(), EditRefusal>
         requires { IfSome bound IsBound }
         ensures answer { AnswersAlways (bound_refusal self.old name side bound) result }
-        ensures ok { OnOk result (self.new ≡ change_requirement (with_bound side bound) name self.old) }
+        ensures ok { OnOk result (
+            self.new ≡ change_requirement (with_bound side bound) name self.old) }
         ensures err { OnErr result (self.new ≡ self.old) }
     {
         let Some(place) = self.requirements.get_index_of(&name) else {
@@ -54,7 +55,8 @@ impl Plan {
     ) -> Result<(), EditRefusal>
         requires { IfSome price IsPrice }
         ensures answer { AnswersAlways (no_requirement self.old name) result }
-        ensures ok { OnOk result (self.new ≡ change_requirement (with_price side price) name self.old) }
+        ensures ok { OnOk result (
+            self.new ≡ change_requirement (with_price side price) name self.old) }
         ensures err { OnErr result (self.new ≡ self.old) }
     {
         let Some(place) = self.requirements.get_index_of(&name) else {
@@ -88,7 +90,8 @@ impl Plan {
         requires lower { IsRangeEnd lower }
         requires upper { IsRangeEnd upper }
         ensures answer { AnswersAlways (range_refusal self.old name lower upper) result }
-        ensures ok { OnOk result (self.new ≡ change_uncertain (with_range lower upper) name self.old) }
+        ensures ok { OnOk result (
+            self.new ≡ change_uncertain (with_range lower upper) name self.old) }
         ensures err { OnErr result (self.new ≡ self.old) }
     {
         let Some(place) = self.uncertains.get_index_of(&name) else {
@@ -110,7 +113,8 @@ impl Plan {
     ) -> Result<(), EditRefusal>
         requires { IsAmount cost }
         ensures answer { AnswersAlways (preference_refusal self.old choice alternative) result }
-        ensures ok { OnOk result (self.new ≡ change_choice (with_cost alternative cost) choice self.old) }
+        ensures ok { OnOk result (
+            self.new ≡ change_choice (with_cost alternative cost) choice self.old) }
         ensures err { OnErr result (self.new ≡ self.old) }
     {
         let Some(place) = self.choices.get_index_of(&choice) else {
