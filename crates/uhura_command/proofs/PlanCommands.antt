@@ -19,7 +19,7 @@ use Rattle.uhura_plan.proofs.Building.{few_literals}
 use Rattle.uhura_line.specs.declared.command.Command.TheVariants as command
 use Rattle.uhura_line.specs.Form.{Word, pair_words, guard_words, rate_words, price_words, IsMax, HasMax}
 use Rattle.uhura_line.specs.Reads.{IsCommand, count_word, priced_of, alternative_pairs, is_amount}
-use Rattle.uhura_command.specs.Script.{literal_names, guard_names, uncertain_command, choice_command, requirement_command, commands_of}
+use Rattle.uhura_command.specs.Script.{literal_names, guard_names, uncertain_command, choice_command, requirement_command, plan_commands}
 use Rattle.uhura_line.proofs.LineLengths.{length-pair_words, length-guard_words, length-rate_words, length-price_words}
 use Rattle.uhura_command.proofs.CommandLines.{FitsLine, few_words}
 use Rattle.uhura_command.proofs.PlanNames.{place_named, event_named, guard_named, literals_among_all, name_not_when}
@@ -158,9 +158,9 @@ requirement_fits plan r sound is =
 
 -- ---- all of them
 
-pub commands_fit : (plan : Lists) → IsSound plan → AllByRecursion FitsLine (commands_of plan)
+pub commands_fit : (plan : Lists) → IsSound plan → AllByRecursion FitsLine (plan_commands plan)
 commands_fit plan sound =
-    recursion_from_All FitsLine (commands_of plan)
+    recursion_from_All FitsLine (plan_commands plan)
     (All-append FitsLine _ _
     (All-append FitsLine _ _
     (All-append FitsLine _ _
