@@ -5,15 +5,14 @@ ghost use Rattle.uhura_plan.specs.Sound.{IsSound};
 ghost use Rattle.uhura_relax.specs.Schedule.{IsEarliestSchedule};
 ghost use Rattle.uhura_session.specs.Answers.{AnswersQuestion, IsProposed, is_unpriced, is_unrated, is_unpriced_plan};
 ghost use Rattle.uhura_session.specs.Branches.{IsOpen};
-ghost use Rattle.uhura_session.specs.Free.{free};
 ghost use Rattle.uhura_session.specs.Unpriced.{IsUnpriced};
 
 use crate::branches::best_branch;
-use crate::error::put_unbuilt;
 use crate::proposal::put_proposal;
 use crate::solver::Solver;
 use std::alloc::{AllocError, Global};
 use uhura_choice::Branch;
+use uhura_command::{State, put_unbuilt};
 use uhura_plan::{Plan, Requirement, Uncertain};
 use uhura_relax::{RelaxRefusal, Schedule};
 use uhura_veto::Vetoes;
@@ -22,17 +21,20 @@ use uhura_veto::Vetoes;
 /// the next.
 pub fn propose(
     alloc: Global,
-    plan: &Plan,
-    vetoes: &Vetoes,
+    state: &State,
     solver: &mut Solver,
     text: &mut Vec<u8>,
 ) -> Result<bool, AllocError>
-    requires free { vetoes.now ≡ [] }
     requires empty { text.old.items ≡ [] }
-    ensures { IfOk result (λ refused. AnswersQuestion (is_unpriced_plan plan.now) (free plan.now) text.new.items refused (free plan.now)) }
+    ensures { IfOk result (λ refused.
+        AnswersQuestion (is_unpriced_plan state.now.plan) state.now (record {
+          text = text.new.items;
+          refused = refused;
+          next = state.now;
+        })) }
 {
-    if is_unpriced_plan(plan) {
-        put_answer(alloc, plan, vetoes, solver, text)?;
+    if is_unpriced_plan(&state.plan) {
+        put_answer(alloc, &state.plan, &state.vetoes, solver, text)?;
         Ok(false)
     } else {
         put_unbuilt(text)?;
@@ -49,9 +51,10 @@ fn put_answer(
     text: &mut Vec<u8>,
 ) -> Result<(), AllocError>
     requires unpriced { IsUnpriced plan.now }
-    requires free { vetoes.now ≡ [] }
+    requires unvetoed { vetoes.now ≡ [] }
     requires empty { text.old.items ≡ [] }
-    ensures { IfOk result (λ _. IsProposed (free plan.now) text.new.items) }
+    ensures { IfOk result (λ _.
+        IsProposed (record { plan = plan.now; vetoes = [] }) text.new.items) }
 {
     match best_branch(plan, vetoes, solver) {
         Some(branch) => {
@@ -75,7 +78,7 @@ fn schedule_branch(
     solver: &mut Solver,
 ) -> Result<Schedule, AllocError>
     requires unpriced { IsUnpriced plan.now }
-    requires open_branch { IsOpen (free plan.now) branch.now }
+    requires open_branch { IsOpen (record { plan = plan.now; vetoes = [] }) branch.now }
     ensures { IfOk result (λ schedule. IsEarliestSchedule plan.now branch.now [] schedule) }
 {
     match solver.schedule(alloc, plan, branch) {

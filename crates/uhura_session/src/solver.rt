@@ -61,8 +61,11 @@ impl Solver {
     /// Whether some times of the nodes keep each edge of the branch that isn't loose. The edges are to be those of the
     /// plan.
     pub fn has_times(&mut self, plan: &Plan, branch: &Branch) -> bool
-        ensures answer { (vetoes : List Veto) → IsTableOf (record { plan = plan.now; vetoes = vetoes }) self.old →
-            MatchBool result (HasTimes (record { plan = plan.now; vetoes = vetoes }) branch.now) (HasTimes (record { plan = plan.now; vetoes = vetoes }) branch.now → ⊥) }
+        ensures answer { (vetoes : List Veto) →
+            IsTableOf (record { plan = plan.now; vetoes = vetoes }) self.old →
+            MatchBool result
+            (HasTimes (record { plan = plan.now; vetoes = vetoes }) branch.now)
+            (HasTimes (record { plan = plan.now; vetoes = vetoes }) branch.now → ⊥) }
         ensures edges { self.new ≡ self.old }
     {
         choose_active(&mut self.chosen, plan, branch);

@@ -12,4 +12,4 @@ unreachable-requires c =
     let cycle = c.in-Err-Broken.field-0-0 in
     let broken : IsRelaxed plan branch [] (Err (Broken cycle)) =
     subst (λ error. IsRelaxed plan branch [] (Err error)) c.in-Err-Broken.field-0-is c.in-Err-Broken.ensures in
-    open_scheduled plan branch cycle.items c.requires.unpriced c.requires.open_branch broken
+    open_scheduled (record { plan = plan; vetoes = [] }) branch cycle.items c.requires.unpriced c.requires.open_branch broken
