@@ -5,6 +5,8 @@ use Rattle.std.specs.List.{All}
 use Rattle.std.proofs.lemmas.Int.{ints}
 use Rattle.std.proofs.lemmas.Bool.{cases_eq}
 use Rattle.std.proofs.lemmas.List.Elements.{All-head, All-tail}
+use Rattle.uhura_net.specs.declared.edge.TheConstants.{FIRM_CAPACITY}
+use Rattle.uhura_net.specs.declared.place.TheConstants.{PLACES}
 use Rattle.uhura_net.specs.declared.edge.Edge.{Edge}
 use Rattle.uhura_net.specs.declared.place.Place.{Place}
 use Rattle.uhura_net.specs.Edges.{Edges, no_edge, edge_at}
@@ -42,7 +44,7 @@ is_among (place ∷ places) at =
     ]
 
 -- what an edge has left is enough for the step
-room_left : (edge : Edge) (back : Bool) (units amount : ℕ) → edge.capacity ≤ 10000000000 → units ≤ edge.capacity → amount ≤ (residual_edge edge units back).capacity →
+room_left : (edge : Edge) (back : Bool) (units amount : ℕ) → edge.capacity ≤ FIRM_CAPACITY → units ≤ edge.capacity → amount ≤ (residual_edge edge units back).capacity →
     HasRoom amount back units
 room_left edge true units amount small within left = left
 room_left edge false units amount small within left = omega arith
@@ -53,7 +55,7 @@ within_moved : (edge : Edge) (back : Bool) (amount before after : ℕ) → befor
 within_moved edge true amount before after within left moved = omega arith
 within_moved edge false amount before after within left moved = omega arith
 
-capacity_most : (at : Option Edge) → IfSome at IsNetEdge → (unwrap_or at no_edge).capacity ≤ 10000000000
+capacity_most : (at : Option Edge) → IfSome at IsNetEdge → (unwrap_or at no_edge).capacity ≤ FIRM_CAPACITY
 capacity_most None sound = omega arith
 capacity_most (Some edge) sound = sound.capacity
 
@@ -161,10 +163,10 @@ IsNetPushed-around net places backward amount units pushes is_net cycle pushed c
     each = is_net.each;
     circulates = record {
       within = pushed_within (edges_of net.edges) (units_of net.units) (units_of units) places backward amount is_net.circulates.within cycle pushed;
-      balanced = pushed_balanced 9472 (edges_of net.edges) (units_of net.units) (units_of units) places backward amount is_net.circulates.balanced cycle.inside cycle pushed;
+      balanced = pushed_balanced PLACES (edges_of net.edges) (units_of net.units) (units_of units) places backward amount is_net.circulates.balanced cycle.inside cycle pushed;
     };
   };
-  value = pushed_value 9472 (edges_of net.edges) (units_of net.units) (units_of units) places backward amount cycle.inside cycle pushed;
+  value = pushed_value PLACES (edges_of net.edges) (units_of net.units) (units_of units) places backward amount cycle.inside cycle pushed;
 }
 
 -- the same where the old units are read, and the new ones written, as equal lists

@@ -37,24 +37,24 @@ nothing_balanced places edges units none node =
     (λ place _. rw (none place) (cond_same (eqb (end place) node) 0)) in
     nothing (λ place. (edge_at edges place).to) ∙ sym (nothing (λ place. (edge_at edges place).from))
 
-pub IsNet-empty : (edges : List (Option Edge)) (units : List ℕ) → edges ≡ replicate 9472 None → units ≡ replicate 9472 0 →
+pub IsNet-empty : (edges : List (Option Edge)) (units : List ℕ) → edges ≡ replicate PLACES None → units ≡ replicate PLACES 0 →
     IsNet (record { edges = edges; units = units; pushes = 0 })
 IsNet-empty edges units no_edges no_units =
-    let none : (place : ℕ) → get_or units place 0 ≡ 0 = λ place. ap (λ us. get_or us place 0) no_units ∙ get_or-replicate_default 9472 place 0 in
+    let none : (place : ℕ) → get_or units place 0 ≡ 0 = λ place. ap (λ us. get_or us place 0) no_units ∙ get_or-replicate_default PLACES place 0 in
     record {
-      places = ap length no_edges ∙ length-replicate {A = Option Edge} 9472 None;
-      counts = ap length no_units ∙ length-replicate {A = ℕ} 9472 0;
+      places = ap length no_edges ∙ length-replicate {A = Option Edge} PLACES None;
+      counts = ap length no_units ∙ length-replicate {A = ℕ} PLACES 0;
       each = λ place.
           let holds : Option Edge → Type 0 = λ edge. IfSome edge IsNetEdge in
-          let absent : get_or edges place None ≡ None = ap (λ es. get_or es place None) no_edges ∙ get_or-replicate_default 9472 place None in
+          let absent : get_or edges place None ≡ None = ap (λ es. get_or es place None) no_edges ∙ get_or-replicate_default PLACES place None in
           subst holds (sym absent) tt;
       circulates = record {
         within = λ place. omega (arith, none place);
-        balanced = nothing_balanced 9472 (edges_of edges) (units_of units) none;
+        balanced = nothing_balanced PLACES (edges_of edges) (units_of units) none;
       };
     }
 
-pub net-empty : (edges : List (Option Edge)) (units : List ℕ) → edges ≡ replicate 9472 None → units ≡ replicate 9472 0 →
-    let empty : Carried = record { edges = replicate 9472 None; units = replicate 9472 0; pushes = 0 } in
+pub net-empty : (edges : List (Option Edge)) (units : List ℕ) → edges ≡ replicate PLACES None → units ≡ replicate PLACES 0 →
+    let empty : Carried = record { edges = replicate PLACES None; units = replicate PLACES 0; pushes = 0 } in
     ◌≡◌ {A = Carried} (record { edges = edges; units = units; pushes = 0 }) empty
 net-empty edges units no_edges no_units = cc

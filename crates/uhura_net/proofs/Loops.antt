@@ -2,6 +2,7 @@
 use Rattle.std.proofs.Common.{◌≡◌, ℕ, ◌<◌, ◌≤◌, Bool, true, false, List, [], ◌∷◌, Some, unwrap_or, refl, sym, ap, subst, ◌∙◌, rules}
 use Rattle.std.specs.List.{IsDistinct}
 use Rattle.std.proofs.lemmas.List.Elements.{All-nil, All-cons, All-same}
+use Rattle.uhura_net.specs.declared.place.TheConstants.{PLACES}
 use Rattle.uhura_net.specs.declared.edge.Edge.{Edge}
 use Rattle.uhura_net.specs.declared.place.Place.{Place}
 use Rattle.uhura_net.specs.Edges.{Edges, no_edge, edge_at}
@@ -20,7 +21,7 @@ two_once : (a b : Place) → is_same_place a b ≡ false → IsDistinct is_same_
 unfolding IsDistinct
 two_once a b apart = search rules
 
-pub two_around : (edges : Edges) (units : Units) (a b : Place) (there back : Edge) (amount : ℕ) (backward : Bool) → is_same_place a b ≡ false → a.0 < 9472 → b.0 < 9472 →
+pub two_around : (edges : Edges) (units : Units) (a b : Place) (there back : Edge) (amount : ℕ) (backward : Bool) → is_same_place a b ≡ false → a.0 < PLACES → b.0 < PLACES →
     edges a.0 ≡ Some there → edges b.0 ≡ Some back → there.to ≡ back.from → back.to ≡ there.from →
     amount ≤ (residual_edge there (units a.0) backward).capacity → amount ≤ (residual_edge back (units b.0) backward).capacity →
     IsResidualCycle edges units (a ∷ b ∷ []) (backward ∷ backward ∷ []) amount
@@ -32,7 +33,7 @@ two_around edges units a b there back amount backward apart a_inside b_inside is
     ap (λ e. residual_edge e (units a.0) backward ∷ residual_edge (edge_at edges b.0) (units b.0) backward ∷ []) first
     ∙ ap (λ e. residual_edge there (units a.0) backward ∷ residual_edge e (units b.0) backward ∷ []) second in
     let enough : Edge → Type 0 = λ edge. amount ≤ edge.capacity in
-    let inside : Place → Type 0 = λ place. place.0 < 9472 in
+    let inside : Place → Type 0 = λ place. place.0 < PLACES in
     record {
       steps = refl;
       inside = All-cons inside a (b ∷ []) a_inside (All-cons inside b [] b_inside (All-nil inside));

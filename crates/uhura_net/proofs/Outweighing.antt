@@ -1,21 +1,90 @@
--- An edge that isn't loose can carry more than all loose ones.
-use Rattle.std.proofs.Common.{◌≡◌, ℕ, ◌*◌, ◌≤◌, Bool, true, false, cond, Option, None, Some, unwrap_or, refl, arith}
+-- An edge that isn't loose can carry more than all loose ones: of 9,472 places in tables 4,608 are loose, and so are the
+-- 4,608 behind them.
+use Rattle.std.proofs.Common.{◌≡◌, ℕ, ◌+◌, ◌*◌, ◌<◌, ◌≤◌, Bool, true, false, cond, Option, None, Some, unwrap_or, refl, ap, ◌∙◌, arith}
 use Rattle.std.specs.Bool.{MatchBool}
+use Rattle.uhura_plan.specs.declared.key.Item.TheVariants.{Requirement, Uncertain}
+use Rattle.uhura_plan.specs.Limits.{IsUnitPrice}
+use Rattle.uhura_net.specs.declared.edge.TheConstants.{FIRM_CAPACITY}
+use Rattle.uhura_net.specs.declared.place.TheConstants.{PLACES, SLOTS, DURATIONS, FIRST_OF_DURATIONS, FIRST_STEEP}
 use Rattle.uhura_net.specs.declared.edge.Edge.{Edge}
 use Rattle.uhura_net.specs.Place.{is_loose}
 use Rattle.uhura_net.specs.Table.{IsEdgeFor}
+use Rattle.uhura_net.specs.Sums.{sum_below}
 use Rattle.uhura_net.specs.Edges.{Edges, no_edge, edge_at}
 use Rattle.uhura_net.specs.Optimal.{loose_capacity, ArePlaced, FirmOutweighLoose}
-use Rattle.uhura_net.proofs.Sums.{sum_below-most}
+use Rattle.uhura_net.proofs.Rows.{loose_in, loose_last}
+use Rattle.uhura_net.proofs.Sums.{sum_below-most, sum_below-append, sum_below-blocks}
 use Rattle.uhura_net.proofs.Firm.{firm_there}
 
+-- a count for each place, of 1,000,000 at most, and of nothing where the place isn't loose
+record CountsLoose (count : ℕ → ℕ) : Type 0 where
+  most : (place : ℕ) → count place ≤ 1000000
+  firm : (place : ℕ) → is_loose place ≡ false → count place ≡ 0
+
+-- a sum of four, and of five
+sum_of_four : (f : ℕ → ℕ) → sum_below 4 f ≡ f 0 + f 1 + f 2 + f 3
+unfolding sum_below
+sum_of_four f = omega arith
+
+sum_of_five : (f : ℕ → ℕ) → sum_below 5 f ≡ f 0 + f 1 + f 2 + f 3 + f 4
+unfolding sum_below
+sum_of_five f = omega arith
+
+-- in the table of a requirement two places are loose
+slot_most : (count : ℕ → ℕ) (slot : ℕ) → CountsLoose count → slot < SLOTS → sum_below 4 (λ row. count (4 * slot + row)) ≤ 2000000
+slot_most count slot counts inside =
+    omega (
+      arith,
+      sum_of_four (λ row. count (4 * slot + row)),
+      counts.most (4 * slot + 0),
+      counts.firm (4 * slot + 1) (loose_in (Requirement slot) 1 inside (omega arith)),
+      counts.most (4 * slot + 2),
+      counts.firm (4 * slot + 3) (loose_in (Requirement slot) 3 inside (omega arith)),
+    )
+
+-- and in that of a duration
+duration_most : (count : ℕ → ℕ) (d : ℕ) → CountsLoose count → d < DURATIONS → sum_below 5 (λ row. count (FIRST_OF_DURATIONS + (5 * d + row))) ≤ 2000000
+duration_most count d counts inside =
+    let at : (row : ℕ) → FIRST_OF_DURATIONS + (5 * d + row) ≡ FIRST_OF_DURATIONS + 5 * d + row = λ row. omega arith in
+    omega (
+      arith,
+      sum_of_five (λ row. count (FIRST_OF_DURATIONS + (5 * d + row))),
+      counts.most (FIRST_OF_DURATIONS + (5 * d + 0)),
+      ap count (at 1) ∙ counts.firm (FIRST_OF_DURATIONS + 5 * d + 1) (loose_in (Uncertain d) 1 inside (omega arith)),
+      counts.most (FIRST_OF_DURATIONS + (5 * d + 2)),
+      ap count (at 3) ∙ counts.firm (FIRST_OF_DURATIONS + 5 * d + 3) (loose_in (Uncertain d) 3 inside (omega arith)),
+      ap count (at 4) ∙ counts.firm (FIRST_OF_DURATIONS + 5 * d + 4) (loose_last d inside),
+    )
+
+-- the tables of the first slots, of the first durations, and all of them
+slots_most : (count : ℕ → ℕ) → CountsLoose count → sum_below (4 * SLOTS) count ≤ SLOTS * 2000000
+slots_most count counts = rw (sum_below-blocks 4 SLOTS count) (sum_below-most SLOTS 2000000 _ (λ slot inside. slot_most count slot counts inside))
+
+durations_most : (count : ℕ → ℕ) → CountsLoose count → sum_below (5 * DURATIONS) (λ i. count (FIRST_OF_DURATIONS + i)) ≤ DURATIONS * 2000000
+durations_most count counts =
+    rw (sum_below-blocks 5 DURATIONS (λ i. count (FIRST_OF_DURATIONS + i))) (sum_below-most DURATIONS 2000000 _ (λ d inside. duration_most count d counts inside))
+
+steep_most : (count : ℕ → ℕ) → CountsLoose count → sum_below (2 * SLOTS + 2 * DURATIONS) (λ i. count (FIRST_STEEP + i)) ≤ (2 * SLOTS + 2 * DURATIONS) * 1000000
+steep_most count counts = sum_below-most (2 * SLOTS + 2 * DURATIONS) 1000000 (λ i. count (FIRST_STEEP + i)) (λ i _. counts.most (FIRST_STEEP + i))
+
+counts_most : (count : ℕ → ℕ) → CountsLoose count → sum_below PLACES count ≤ 9216000000
+counts_most count counts =
+    omega (
+      arith,
+      sum_below-append FIRST_STEEP (2 * SLOTS + 2 * DURATIONS) count,
+      sum_below-append FIRST_OF_DURATIONS (5 * DURATIONS) count,
+      slots_most count counts,
+      durations_most count counts,
+      steep_most count counts,
+    )
+
 -- the capacity of a place counts at most 1,000,000 where it is loose
-loose_most : (loose : Bool) (capacity : ℕ) → MatchBool loose ((1 ≤ capacity) × (capacity ≤ 1000000)) (capacity ≡ 10000000000) → cond loose capacity 0 ≤ 1000000
-loose_most true capacity price = price.1
+loose_most : (loose : Bool) (capacity : ℕ) → MatchBool loose (IsUnitPrice capacity) (capacity ≡ FIRM_CAPACITY) → cond loose capacity 0 ≤ 1000000
+loose_most true capacity price = price.most
 loose_most false capacity price = omega arith
 
 -- and is 10,000,000,000 where it isn't
-firm_capacity : (loose : Bool) (capacity : ℕ) → MatchBool loose ((1 ≤ capacity) × (capacity ≤ 1000000)) (capacity ≡ 10000000000) → loose ≡ false → capacity ≡ 10000000000
+firm_capacity : (loose : Bool) (capacity : ℕ) → MatchBool loose (IsUnitPrice capacity) (capacity ≡ FIRM_CAPACITY) → loose ≡ false → capacity ≡ FIRM_CAPACITY
 firm_capacity true capacity price firm = absurd (let no : ⊥ = cc in no)
 firm_capacity false capacity price firm = price
 
@@ -28,17 +97,24 @@ loose_most_at : (at : Option Edge) (place : ℕ) → ((edge : Edge) → at ≡ S
 loose_most_at None place sound = no_capacity (is_loose place)
 loose_most_at (Some edge) place sound = loose_most (is_loose place) edge.capacity (sound edge refl).capacity
 
+-- so the loose edges can carry 9,216,000,000 together
+loose_capacity_most : (edges : Edges) → ArePlaced edges → loose_capacity PLACES edges ≤ 9216000000
+loose_capacity_most edges placed =
+    counts_most (λ p. cond (is_loose p) (edge_at edges p).capacity 0) (record {
+      most = λ p. loose_most_at (edges p) p (λ e at. (placed p e at).1);
+      firm = λ p firm. ap (λ loose. cond loose (edge_at edges p).capacity 0) firm;
+    })
+
 -- an edge that isn't loose is there
 there_is : (at : Option Edge) (loose : Bool) (edge : Edge) → cond loose None at ≡ Some edge → at ≡ Some edge
 there_is at true edge is = absurd (let no : ⊥ = cc in no)
 there_is at false edge is = is
 
-pub firm_outweigh : (edges : Edges) → ArePlaced edges → FirmOutweighLoose 9472 edges
+pub firm_outweigh : (edges : Edges) → ArePlaced edges → FirmOutweighLoose PLACES edges
 firm_outweigh edges placed place edge is =
     let there = firm_there (edges place) (is_loose place) edge is in
     let stands = placed place edge (there_is (edges place) (is_loose place) edge is) in
-    let few : loose_capacity 9472 edges ≤ 9472 * 1000000 = sum_below-most 9472 1000000 (λ p. cond (is_loose p) (edge_at edges p).capacity 0) (λ p _. loose_most_at (edges p) p (λ e at. (placed p e at).1)) in
     record {
       inside = stands.0;
-      more = omega (arith, few, firm_capacity (is_loose place) edge.capacity stands.1.capacity there.0);
+      more = omega (arith, loose_capacity_most edges placed, firm_capacity (is_loose place) edge.capacity stands.1.capacity there.0);
     }

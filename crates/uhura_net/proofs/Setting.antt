@@ -2,6 +2,7 @@
 use Rattle.std.proofs.Common.{◌≡◌, ℕ, ◌<◌, ◌≤◌, ◌⊎◌, Bool, true, false, cond, eqb, length, get_or, set, Option, None, IfSome, unwrap_or, refl, sym, ap, subst, ◌∙◌, inl, inr, arith}
 use Rattle.std.proofs.lemmas.Bool.{cases_eq}
 use Rattle.std.proofs.lemmas.List.{length-set, get_or-set_same, get_or-set_other}
+use Rattle.uhura_net.specs.declared.place.TheConstants.{PLACES}
 use Rattle.uhura_net.specs.declared.edge.Edge.{Edge}
 use Rattle.uhura_net.specs.Edges.{Edges, no_edge, edge_at}
 use Rattle.uhura_net.specs.Circulation.{Units, edges_of, units_of, IsCirculation}
@@ -64,7 +65,7 @@ unfolding TakesOver
 takes_over net at edge may = may
 
 -- a net stays one where an edge, or none, is set that may be
-pub IsNet-set : (net : Carried) (at : ℕ) (edge : Option Edge) → at < 9472 → IfSome edge IsNetEdge → MayBeSet net at edge → IsNet net →
+pub IsNet-set : (net : Carried) (at : ℕ) (edge : Option Edge) → at < PLACES → IfSome edge IsNetEdge → MayBeSet net at edge → IsNet net →
     IsNet (record { edges = set net.edges at edge; units = net.units; pushes = net.pushes })
 IsNet-set net at edge inside sound may is_net =
     let room : at < length net.edges = omega (arith, is_net.places) in
@@ -91,5 +92,5 @@ IsNet-set net at edge inside sound may is_net =
       places = length-set net.edges at edge ∙ is_net.places;
       counts = is_net.counts;
       each = each;
-      circulates = circulation_taken 9472 (edges_of net.edges) (edges_of (set net.edges at edge)) (units_of net.units) taken is_net.circulates;
+      circulates = circulation_taken PLACES (edges_of net.edges) (edges_of (set net.edges at edge)) (units_of net.units) taken is_net.circulates;
     }

@@ -22,6 +22,23 @@ unfolding sum_below
 sum_below-most zero most f less = omega arith
 sum_below-most (suc n) most f less = omega (arith, sum_below-most n most f (λ i inside. less i (omega arith)), less n (omega arith))
 
+-- the sum of the terms in front, and of those behind
+pub sum_below-append : (m n : ℕ) (f : ℕ → ℕ) → sum_below (m + n) f ≡ sum_below m f + sum_below n (λ i. f (m + i))
+unfolding sum_below
+sum_below-append m zero f = let none : m + 0 ≡ m = omega arith in rw none (omega arith)
+sum_below-append m (suc n) f =
+    let next : m + suc n ≡ suc (m + n) = omega arith in
+    rw next (omega (arith, sum_below-append m n f))
+
+-- a sum by blocks of terms
+pub sum_below-blocks : (wide n : ℕ) (f : ℕ → ℕ) →
+    sum_below (wide * n) f ≡ sum_below n (λ block. sum_below wide (λ i. f (wide * block + i)))
+unfolding sum_below
+sum_below-blocks wide zero f = let none : wide * 0 ≡ 0 = omega arith in rw none refl
+sum_below-blocks wide (suc n) f =
+    let next : wide * suc n ≡ wide * n + wide = omega arith in
+    rw next (omega (arith, sum_below-append (wide * n) wide f, sum_below-blocks wide n f))
+
 -- no term is above the sum
 pub term_le : (n : ℕ) (f : ℕ → ℕ) (i : ℕ) → i < n → f i ≤ sum_below n f
 unfolding sum_below

@@ -1,5 +1,6 @@
 -- When a circulation and times at the nodes, its potentials, show each other optimal.
 use Rattle.std.specs.Prelude.{ℕ, suc, ◌*◌, ◌<◌, ◌≤◌, ◌≡◌, ℤ, pos, negsuc, ◌-ℤ◌, ◌≤ℤ◌, None, Some, if◌then◌else◌}
+use Rattle.uhura_net.specs.declared.place.TheConstants.{PLACES}
 use Rattle.uhura_net.specs.declared.edge.Edge.{Edge}
 use Rattle.uhura_net.specs.Place.{is_loose}
 use Rattle.uhura_net.specs.Table.{IsEdgeFor}
@@ -51,4 +52,4 @@ FirmOutweighLoose places edges = (place : ℕ) (edge : Edge) → firm_edges edge
 
 -- each edge is at one of the places, and may stand there
 abbrev pub ArePlaced : Edges → Type 0
-ArePlaced edges = (place : ℕ) (edge : Edge) → edges place ≡ Some edge → (place < 9472) × IsEdgeFor place edge
+ArePlaced edges = (place : ℕ) (edge : Edge) → edges place ≡ Some edge → (place < PLACES) × IsEdgeFor place edge

@@ -1,6 +1,7 @@
 -- What a circulation leaves to be walked, and pushes along it.
 use Rattle.std.specs.Prelude.{ℕ, ◌+◌, ◌-◌, ◌^◌, ◌==◌, ◌<◌, ◌≤◌, ◌≡◌, ◌≢◌, Bool, true, false, neg_ℤ, List, [], ◌∷◌, length, slice_index_or}
 use Rattle.std.specs.List.{All, IsDistinct}
+use Rattle.uhura_net.specs.declared.place.TheConstants.{PLACES}
 use Rattle.uhura_net.specs.declared.edge.Edge.{Edge}
 use Rattle.uhura_net.specs.declared.place.Place.{Place}
 use Rattle.uhura_net.specs.Edges.{Edges, edge_at}
@@ -26,7 +27,7 @@ is_same_place a b = a.0 == b.0
 -- a closed walk of residual edges that can carry some more units each, on which no place stands twice
 pub record IsResidualCycle (edges : Edges) (units : Units) (places : List Place) (backward : List Bool) (amount : ℕ) : Type 0 where
   pub steps : length backward ≡ length places
-  pub inside : All (λ place. place.0 < 9472) places
+  pub inside : All (λ place. place.0 < PLACES) places
   pub once : IsDistinct is_same_place places
   pub closed : IsClosedWalk (residual_walk edges units places backward)
   pub left : All (λ edge. amount ≤ edge.capacity) (residual_walk edges units places backward)

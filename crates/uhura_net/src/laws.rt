@@ -3,6 +3,7 @@ ghost use Rattle.std.specs.Prelude.{◌≡◌, ℕ, ◌*◌, ◌<◌, ◌≤◌,
 ghost use Rattle.std.specs.List.{All};
 ghost use Rattle.uhura_plan.specs.declared.key.EdgeKey.{EdgeKey};
 ghost use Rattle.uhura_net.specs.declared.edge.Edge.{Edge};
+ghost use Rattle.uhura_net.specs.declared.place.TheConstants.{PLACES};
 ghost use Rattle.uhura_net.specs.declared.place.Place.{Place};
 ghost use Rattle.uhura_net.specs.Place.{place_number, HasPlace, StandsAt, is_loose, is_loose_key};
 ghost use Rattle.uhura_net.specs.Edges.{Edges, edge_at, KeepsAt, MeetsAt, Meets};
@@ -15,7 +16,7 @@ ghost use Rattle.uhura_net.specs.Optimal.{IsOptimal, firm_edges, loose_excess, A
 /// that of an edge.
 pub fn places_and_keys_are_one_to_one()
     ensures apart { (a b : EdgeKey) → HasPlace a → HasPlace b → place_number a ≡ place_number b → a ≡ b }
-    ensures onto { (place : ℕ) → place < 9472 → (key : EdgeKey) × StandsAt place key }
+    ensures onto { (place : ℕ) → place < PLACES → (key : EdgeKey) × StandsAt place key }
 {}
 
 /// The places that are loose are those of the loose edges.
@@ -69,5 +70,5 @@ pub fn optimal_circulations_are_paid_by_loose_edges()
 
 /// Of edges that stand where they may, each that isn't loose can carry more than all loose ones together.
 pub fn firm_edges_outweigh_loose_ones()
-    ensures { (edges : Edges) → ArePlaced edges → FirmOutweighLoose 9472 edges }
+    ensures { (edges : Edges) → ArePlaced edges → FirmOutweighLoose PLACES edges }
 {}

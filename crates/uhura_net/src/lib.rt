@@ -14,7 +14,7 @@ mod table;
 #[cfg(test)]
 mod tests;
 
-pub use edge::{Edge, NODES};
+pub use edge::{Edge, FIRM_CAPACITY, NODES};
 pub use net::Net;
 pub use place::{PLACES, Place, key_of, place_of};
 pub use table::EdgeTable;

@@ -33,7 +33,7 @@ impl Model for Net {
 impl Net {
     /// A net without an edge.
     pub fn new(alloc: Global) -> Result<Net, AllocError>
-        ensures net { IfOk result (λ net. net ≡ record { edges = replicate 9472 None; units = replicate 9472 0; pushes = 0 }) }
+        ensures net { IfOk result (λ net. net ≡ record { edges = replicate PLACES None; units = replicate PLACES 0; pushes = 0 }) }
         ensures sound { IfOk result IsNet }
     {
         Ok(Net {
@@ -46,7 +46,7 @@ impl Net {
     /// Puts an edge, or none, at a place. All units stay, and all other edges. An edge may come and go where there are no
     /// units; where there are some, the new edge has the same nodes and a capacity for them.
     pub fn set(&mut self, place: Place, edge: Option<Edge>)
-        requires place { place.0 < 9472 }
+        requires place { place.0 < PLACES }
         requires edge { IfSome edge IsNetEdge }
         requires units { MayBeSet self.old place.0 edge }
         ensures net { self.new ≡ record self.old { edges = slice_set self.old.edges place.0 edge } }
@@ -57,7 +57,7 @@ impl Net {
 
     /// The edge at a place.
     pub fn edge(&self, place: Place) -> Option<Edge>
-        requires { place.0 < 9472 }
+        requires { place.0 < PLACES }
         ensures edge { result ≡ edges_of self.now.edges place.0 }
         ensures there { IfSome result IsNetEdge }
         ensures sound { IsNet self.now }
@@ -67,7 +67,7 @@ impl Net {
 
     /// How many units the edge at a place carries.
     pub fn units(&self, place: Place) -> u64
-        requires { place.0 < 9472 }
+        requires { place.0 < PLACES }
         ensures units { result ≡ units_of self.now.units place.0 }
         ensures sound { IsNet self.now }
     {

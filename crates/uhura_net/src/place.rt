@@ -1,16 +1,26 @@
 //! Every edge that a plan can have stands at a place of its own. A requirement in slot `s` has the places from `4 * s`
 //! on, and duration `d` those from `8192 + 5 * d` on, each in the order lower loose, lower firm, upper loose,
-//! upper firm; a duration has its order edge last.
-ghost use Rattle.std.specs.Prelude.{◌≡◌, ◌+◌, ◌<◌};
-ghost use Rattle.uhura_net.specs.Place.{first_place, loose_row, firm_row, place_number, IsPlacedItem, HasPlace};
+//! upper firm; a duration has its order edge last. Behind all of these a requirement has its lower and upper steep edge
+//! from `9472 + 2 * s` on, and a duration from `13568 + 2 * d` on.
+ghost use Rattle.std.specs.Prelude.{◌≡◌, ◌+◌, ◌*◌, ◌<◌};
+ghost use Rattle.uhura_net.specs.Place.{first_place, first_steep_place, loose_row, firm_row, steep_row, place_number, IsPlacedItem, HasPlace};
 
 use uhura_plan::{EdgeKey, Item, Side, SideKey};
 
-/// The number of places.
-pub const PLACES: usize = 9472;
+/// The number of slots of requirements.
+const SLOTS: u32 = 2048;
 
-/// The first place of a duration, behind 2,048 slots with four places each.
-const FIRST_OF_DURATIONS: u32 = 8192;
+/// The number of durations.
+const DURATIONS: u32 = 256;
+
+/// The first place of a duration, behind the slots with four places each.
+const FIRST_OF_DURATIONS: u32 = 4 * SLOTS;
+
+/// The first place of a steep edge, behind the durations with five places each.
+const FIRST_STEEP: u32 = FIRST_OF_DURATIONS + 5 * DURATIONS;
+
+/// The number of places.
+pub const PLACES: usize = (FIRST_STEEP + 2 * SLOTS + 2 * DURATIONS) as usize;
 
 /// The number of a place, below `PLACES`.
 #[derive(Clone, Copy, Debug, PartialEq, Eq)]
@@ -26,6 +36,7 @@ pub fn place_of(key: EdgeKey) -> Place
         EdgeKey::Loose(side) => Place(first_place(side.item) + loose_row(side.side)),
         EdgeKey::Firm(side) => Place(first_place(side.item) + loose_row(side.side) + 1),
         EdgeKey::Order(duration) => Place(first_place(Item::Uncertain(duration)) + 4),
+        EdgeKey::Steep(side) => Place(first_steep_place(side.item) + steep_row(side.side)),
     }
 }
 
@@ -37,21 +48,19 @@ pub fn key_of(place: Place) -> EdgeKey
 {
     let number = place.0;
     if number < FIRST_OF_DURATIONS {
-        return key_in_row(Item::Requirement(number / 4), number % 4);
+        key_in_row(Item::Requirement(number / 4), number % 4)
+    } else if number < FIRST_STEEP {
+        duration_key(number - FIRST_OF_DURATIONS)
+    } else {
+        steep_key(number - FIRST_STEEP)
     }
-    let duration = (number - FIRST_OF_DURATIONS) / 5;
-    let row = (number - FIRST_OF_DURATIONS) % 5;
-    if row == 4 {
-        return EdgeKey::Order(duration);
-    }
-    key_in_row(Item::Uncertain(duration), row)
 }
 
-// Where the table of an item begins.
+/// Where the table of an item begins.
 fn first_place(item: Item) -> u32
     requires { IsPlacedItem item }
     ensures first { result ≡ first_place item }
-    ensures small { result < 9468 }
+    ensures small { result < FIRST_STEEP }
 {
     match item {
         Item::Requirement(slot) => 4 * slot,
@@ -59,7 +68,19 @@ fn first_place(item: Item) -> u32
     }
 }
 
-// The row of a side's loose edge, behind which its firm edge has its row.
+/// Where the pair of an item's steep edges begins.
+fn first_steep_place(item: Item) -> u32
+    requires { IsPlacedItem item }
+    ensures first { result ≡ first_steep_place item }
+    ensures room { result + 1 < PLACES }
+{
+    match item {
+        Item::Requirement(slot) => FIRST_STEEP + 2 * slot,
+        Item::Uncertain(duration) => FIRST_STEEP + 2 * SLOTS + 2 * duration,
+    }
+}
+
+/// The row of a side's loose edge, behind which its firm edge has its row.
 fn loose_row(side: Side) -> u32
     ensures row { result ≡ loose_row side }
     ensures firm { result + 1 ≡ firm_row side }
@@ -71,7 +92,33 @@ fn loose_row(side: Side) -> u32
     }
 }
 
-// The edge of a side in one of the first four rows.
+/// The row of a side's steep edge.
+fn steep_row(side: Side) -> u32
+    ensures row { result ≡ steep_row side }
+    ensures small { result < 2 }
+{
+    match side {
+        Side::Lower => 0,
+        Side::Upper => 1,
+    }
+}
+
+/// The edge of a duration, by the places in front of it in the tables of durations.
+fn duration_key(number: u32) -> EdgeKey
+    requires { number < 5 * DURATIONS }
+    ensures place { place_number result ≡ FIRST_OF_DURATIONS + number }
+    ensures has_place { HasPlace result }
+{
+    let duration = number / 5;
+    let row = number % 5;
+    if row == 4 {
+        EdgeKey::Order(duration)
+    } else {
+        key_in_row(Item::Uncertain(duration), row)
+    }
+}
+
+/// The edge of a side in one of the first four rows.
 fn key_in_row(item: Item, row: u32) -> EdgeKey
     requires { row < 4 }
     ensures place { place_number result ≡ first_place item + row }
@@ -86,6 +133,26 @@ fn key_in_row(item: Item, row: u32) -> EdgeKey
     }
 }
 
+/// The steep edge with so many others in front of it.
+fn steep_key(number: u32) -> EdgeKey
+    requires { number < 2 * SLOTS + 2 * DURATIONS }
+    ensures place { place_number result ≡ FIRST_STEEP + number }
+    ensures has_place { HasPlace result }
+{
+    let pair = number / 2;
+    let item = if pair < SLOTS {
+        Item::Requirement(pair)
+    } else {
+        Item::Uncertain(pair - SLOTS)
+    };
+    let side = if number % 2 == 0 {
+        Side::Lower
+    } else {
+        Side::Upper
+    };
+    EdgeKey::Steep(SideKey { item, side })
+}
+
 #[cfg(test)]
 mod tests {
     use super::*;
@@ -93,7 +160,7 @@ mod tests {
     #[test]
     fn places_edges_by_item_and_row(rt: HostRuntime) {
         let side = |item, side| SideKey { item, side };
-        let table: [(EdgeKey, u32); 5] = [
+        let table: [(EdgeKey, u32); 7] = [
             (EdgeKey::Loose(side(Item::Requirement(0), Side::Lower)), 0),
             (EdgeKey::Firm(side(Item::Requirement(7), Side::Upper)), 31),
             (
@@ -102,6 +169,14 @@ mod tests {
             ),
             (EdgeKey::Firm(side(Item::Uncertain(0), Side::Lower)), 8193),
             (EdgeKey::Order(255), 9471),
+            (
+                EdgeKey::Steep(side(Item::Requirement(7), Side::Lower)),
+                9486,
+            ),
+            (
+                EdgeKey::Steep(side(Item::Uncertain(255), Side::Upper)),
+                14_079,
+            ),
         ];
         for (key, number) in table {
             assert_eq!(rt; place_of(key), Place(number));

@@ -1,5 +1,6 @@
 //! What units cost at the bounds of their edges.
 ghost use Rattle.std.specs.Prelude.{◌≡◌, length, pos, ◌*ℤ◌, unwrap_or};
+ghost use Rattle.uhura_net.specs.declared.place.TheConstants.{PLACES};
 ghost use Rattle.uhura_net.specs.Edges.{no_edge};
 ghost use Rattle.uhura_net.specs.Circulation.{edges_of, units_of, weighed};
 ghost use Rattle.uhura_net.specs.Price.{IsPriceOf, IsPriced, ArePriced};
@@ -8,11 +9,11 @@ use crate::Edge;
 
 /// The sum of the bounds times the units.
 pub(crate) fn price(edges: &[Option<Edge>], units: &[u64]) -> i128
-    requires places { length edges.now ≡ 9472 }
-    requires counts { length units.now ≡ 9472 }
+    requires places { length edges.now ≡ PLACES }
+    requires counts { length units.now ≡ PLACES }
     requires priced { ArePriced edges.now units.now }
-    ensures price { result ≡ weighed 9472 (edges_of edges.now) (units_of units.now) (λ edge. edge.bound) }
-    ensures small { IsPriceOf 9472 result }
+    ensures price { result ≡ weighed PLACES (edges_of edges.now) (units_of units.now) (λ edge. edge.bound) }
+    ensures small { IsPriceOf PLACES result }
 {
     let mut sum = 0;
     for (place, edge) in edges.iter().enumerate() {

@@ -14,7 +14,7 @@ use Rattle.uhura_plan.specs.declared.uncertain.Uncertain.{Uncertain}
 use Rattle.uhura_plan.specs.declared.choice.Choice.{Choice}
 use Rattle.uhura_plan.specs.declared.key.Side.{Side}
 use Rattle.uhura_plan.specs.declared.key.Side.TheVariants.{Lower, Upper}
-use Rattle.uhura_plan.specs.declared.requirement.Price.{Price}
+use Rattle.uhura_plan.specs.declared.price.Price.{Price}
 use Rattle.uhura_plan.specs.declared.requirement.Requirement.{Requirement}
 use Rattle.uhura_plan.specs.declared.refusal.EditRefusal.{EditRefusal}
 use Rattle.uhura_plan.specs.declared.refusal.EditRefusal.TheVariants.{Unknown}

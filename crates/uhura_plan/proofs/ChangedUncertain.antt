@@ -10,6 +10,7 @@ use Rattle.std.proofs.lemmas.Map.Steps.{set_value_same}
 use Rattle.std.proofs.lemmas.Map.Views.{All-values-set_value, IfSome-lookup_from_All}
 use Rattle.uhura_plan.specs.declared.key.Side.{Side}
 use Rattle.uhura_plan.specs.declared.key.Side.TheVariants.{Lower, Upper}
+use Rattle.uhura_plan.specs.declared.price.Rate.{Rate}
 use Rattle.uhura_plan.specs.declared.uncertain.Uncertain.{Uncertain}
 use Rattle.uhura_plan.specs.declared.choice.Choice.{Choice}
 use Rattle.uhura_plan.specs.declared.requirement.Requirement.{Requirement}
@@ -129,7 +130,7 @@ module _ (events ends : List (List ℕ)) (entries : List (List ℕ × Uncertain)
         }
 
 -- another rate for a side keeps a duration sound
-pub StaysSound-with_rate : (side : Side) (rate : Option ℕ) (uncertain : Uncertain) → IfSome rate IsRate → StaysSound uncertain (with_rate side rate uncertain)
+pub StaysSound-with_rate : (side : Side) (rate : Option Rate) (uncertain : Uncertain) → IfSome rate IsRate → StaysSound uncertain (with_rate side rate uncertain)
 StaysSound-with_rate Lower rate uncertain limited = record {
   name = refl;
   end = refl;

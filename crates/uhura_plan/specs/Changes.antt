@@ -4,7 +4,8 @@ use Rattle.uhura_plan.specs.declared.key.Side.{Side}
 use Rattle.uhura_plan.specs.declared.key.Side.TheVariants.{Lower, Upper}
 use Rattle.uhura_plan.specs.declared.uncertain.Uncertain.{Uncertain}
 use Rattle.uhura_plan.specs.declared.choice.Choice.{Choice}
-use Rattle.uhura_plan.specs.declared.requirement.Price.{Price}
+use Rattle.uhura_plan.specs.declared.price.Price.{Price}
+use Rattle.uhura_plan.specs.declared.price.Rate.{Rate}
 use Rattle.uhura_plan.specs.declared.requirement.Requirement.{Requirement}
 use Rattle.uhura_plan.specs.Lists.{Lists}
 
@@ -19,7 +20,7 @@ with_price Lower price requirement = record requirement { lower = record require
 with_price Upper price requirement = record requirement { upper = record requirement.upper { price = price } }
 
 -- a duration with this rate on a side
-abbrev pub with_rate : Side → Option ℕ → Uncertain → Uncertain
+abbrev pub with_rate : Side → Option Rate → Uncertain → Uncertain
 with_rate Lower rate uncertain = record uncertain { lower_rate = rate }
 with_rate Upper rate uncertain = record uncertain { upper_rate = rate }
 

@@ -2,6 +2,7 @@
 use Rattle.std.specs.Prelude.{◌≡◌, ℕ, ◌<◌, ℤ, List, [], ◌∷◌, ◌++◌, map, Option, Some, Contains}
 use Rattle.uhura_plan.specs.declared.key.EventRef.TheVariants.{Controllable}
 use Rattle.uhura_plan.specs.declared.guard.Literal.{Literal}
+use Rattle.uhura_plan.specs.declared.price.Rate.{Rate}
 use Rattle.uhura_plan.specs.declared.uncertain.Uncertain.{Uncertain}
 use Rattle.uhura_plan.specs.declared.choice.Choice.{Choice}
 use Rattle.uhura_plan.specs.declared.requirement.Bounded.{Bounded}
@@ -18,7 +19,7 @@ abbrev pub with_uncertain : Lists → Uncertain → Lists
 with_uncertain plan made = record plan { uncertains = plan.uncertains ++ made ∷ [] }
 
 -- the new plan is the old one with the duration that the call states, from the place of its start
-pub record AddsUncertain (old new : Lists) (name start end : List ℕ) (lower upper : ℤ) (lower_rate upper_rate : Option ℕ) : Type 0 where
+pub record AddsUncertain (old new : Lists) (name start end : List ℕ) (lower upper : ℤ) (lower_rate upper_rate : Option Rate) : Type 0 where
   pub from : ℕ
   pub found : find_event old start ≡ Some (Controllable from)
   pub lists : new ≡ with_uncertain old (record { name = name; start = from; end = end; lower = lower; upper = upper; lower_rate = lower_rate; upper_rate = upper_rate })

@@ -2,11 +2,13 @@ pub mod Changes
 pub mod Edits
 pub mod Find
 pub mod Guard
+pub mod Keys
 pub mod Limits
 pub mod Lists
 pub mod Name
 pub mod Padded
 pub mod Refusals
+pub mod Sides
 pub mod Slots
 pub mod Sound
 pub mod Tables

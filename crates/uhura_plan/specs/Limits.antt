@@ -1,6 +1,8 @@
 -- The numbers that a plan may hold.
-use Rattle.std.specs.Prelude.{ℕ, ◌≤◌, ℤ, pos, negsuc, ◌≤ℤ◌, Option, Some, None, IfSome, ⊤}
-use Rattle.uhura_plan.specs.declared.requirement.Price.{Price}
+use Rattle.std.specs.Prelude.{ℕ, ◌≤◌, ◌<◌, ℤ, pos, negsuc, ◌≤ℤ◌, Option, Some, None, IfSome, ⊤}
+use Rattle.uhura_plan.specs.declared.price.Second.{Second}
+use Rattle.uhura_plan.specs.declared.price.Rate.{Rate}
+use Rattle.uhura_plan.specs.declared.price.Price.{Price}
 use Rattle.uhura_plan.specs.declared.requirement.Bounded.{Bounded}
 
 -- a requirement's bound is from -1,000,000,000 to 1,000,000,000
@@ -14,17 +16,30 @@ pub record IsRangeEnd (end : ℤ) : Type 0 where
   pub most : end ≤ℤ pos 1000000000
 
 -- a price for one unit is from 1 to 1,000,000
-pub record IsRate (rate : ℕ) : Type 0 where
-  pub least : 1 ≤ rate
-  pub most : rate ≤ 1000000
+pub record IsUnitPrice (price : ℕ) : Type 0 where
+  pub least : 1 ≤ price
+  pub most : price ≤ 1000000
 
 -- costs and units are at most 1,000,000,000
 abbrev pub IsAmount : ℕ → Type 0
 IsAmount amount = amount ≤ 1000000000
 
--- a price has a rate and, where it has a greatest loosening, an amount
+-- a second price holds past an amount of 1 or more, and is above the first
+pub record IsSecond (first : ℕ) (second : Second) : Type 0 where
+  pub some : 1 ≤ second.after
+  pub after : IsAmount second.after
+  pub above : first < second.rate
+  pub most : second.rate ≤ 1000000
+
+-- a rate is the price of a unit, and maybe a second price
+pub record IsRate (rate : Rate) : Type 0 where
+  pub first : IsUnitPrice rate.first
+  pub second : IfSome rate.second (IsSecond rate.first)
+
+-- a price is likewise, and its greatest loosening, where it has one, is an amount
 pub record IsPrice (price : Price) : Type 0 where
-  pub rate : IsRate price.rate
+  pub rate : IsUnitPrice price.rate
+  pub second : IfSome price.second (IsSecond price.rate)
   pub most : IfSome price.most IsAmount
 
 -- the bound and the price of a side, where it has them, are within their limits

@@ -1,4 +1,6 @@
 //! How an event, a side and a worst-case edge are named.
+ghost use Rattle.std.specs.Prelude.{◌≡◌};
+ghost use Rattle.uhura_plan.specs.Keys.{is_same_key};
 
 /// The lower or the upper side of a requirement or of an uncertain duration.
 #[derive(Clone, Copy, Debug, PartialEq, Eq)]
@@ -29,11 +31,19 @@ pub struct SideKey {
     pub side: Side,
 }
 
-/// A worst-case edge: a side's edge as stated, its edge moved by the room, or the edge that keeps the
-/// range of the duration in this place from being empty.
+/// Whether two keys name one side.
+pub fn is_same_key(a: SideKey, b: SideKey) -> bool
+    ensures { result ≡ is_same_key a b }
+{
+    a == b
+}
+
+/// A worst-case edge: a side's edge as stated, its edge moved by the room, the edge that keeps the range of the
+/// duration in this place from being empty, or a side's edge moved by the units that its first price covers.
 #[derive(Clone, Copy, Debug, PartialEq, Eq)]
 pub enum EdgeKey {
     Loose(SideKey),
     Firm(SideKey),
     Order(u32),
+    Steep(SideKey),
 }

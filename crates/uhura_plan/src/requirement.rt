@@ -1,15 +1,9 @@
 //! A bound on the difference of two event times, from below, from above or both.
 ghost use Rattle.std.specs.Prelude.{◌≡◌};
 ghost use Rattle.uhura_plan.specs.Changes.{with_bound, with_price};
+ghost use Rattle.uhura_plan.specs.Sides.{bounded_of, loosening_rate};
 
-use crate::{EventRef, Guard, Name, Side};
-
-/// The price of loosening a side by one unit, from 1 to 1,000,000, and the most units it may be loosened by.
-#[derive(Clone, Copy, Debug, PartialEq, Eq)]
-pub struct Price {
-    pub rate: u32,
-    pub most: Option<u32>,
-}
+use crate::{EventRef, Guard, Name, Price, Rate, Side};
 
 /// A side's bound, from -1,000,000,000 to 1,000,000,000, and its price. Without a bound the price has
 /// no effect.
@@ -33,6 +27,26 @@ pub struct Requirement {
 }
 
 impl Requirement {
+    /// The bound and the price of the side.
+    pub fn bounded(&self, side: Side) -> Bounded
+        ensures { result ≡ bounded_of side self.now }
+    {
+        match side {
+            Side::Lower => self.lower,
+            Side::Upper => self.upper,
+        }
+    }
+
+    /// What a unit of the side costs, where it has a price.
+    pub fn rate(&self, side: Side) -> Option<Rate>
+        ensures { result ≡ loosening_rate side self.now }
+    {
+        match self.bounded(side).price {
+            Some(price) => Some(price.per_unit()),
+            None => None,
+        }
+    }
+
     /// The lower and the upper bound, where the side has this one.
     pub(crate) fn bounds_with(&self, side: Side, bound: Option<i64>) -> (Option<i64>, Option<i64>)
         ensures lower { result.0 ≡ (with_bound side bound self.now).lower.bound }

@@ -1,11 +1,12 @@
 //! A duration that nature picks.
 ghost use Rattle.std.specs.Prelude.{◌≡◌};
 ghost use Rattle.uhura_plan.specs.Changes.{with_rate, with_range};
+ghost use Rattle.uhura_plan.specs.Sides.{rate_of};
 
-use crate::{Name, Side};
+use crate::{Name, Rate, Side};
 
 /// A duration from the controllable event `start` to its own end, from `lower` to `upper` units long.
-/// A side with a rate may be narrowed at that price a unit.
+/// A side with a rate may be narrowed at that price.
 #[derive(Clone, Drop)]
 pub struct Uncertain {
     pub name: Name,
@@ -13,13 +14,23 @@ pub struct Uncertain {
     pub end: Name,
     pub lower: i64,
     pub upper: i64,
-    pub lower_rate: Option<u32>,
-    pub upper_rate: Option<u32>,
+    pub lower_rate: Option<Rate>,
+    pub upper_rate: Option<Rate>,
 }
 
 impl Uncertain {
+    /// What a unit of the side costs, where it has a price.
+    pub fn rate(&self, side: Side) -> Option<Rate>
+        ensures { result ≡ rate_of side self.now }
+    {
+        match side {
+            Side::Lower => self.lower_rate,
+            Side::Upper => self.upper_rate,
+        }
+    }
+
     /// Puts the rate on the side.
-    pub(crate) fn set_rate(&mut self, side: Side, rate: Option<u32>)
+    pub(crate) fn set_rate(&mut self, side: Side, rate: Option<Rate>)
         ensures { self.new ≡ with_rate side rate self.old }
     {
         match side {

@@ -6,7 +6,7 @@ use Rattle.uhura_plan.specs.declared.uncertain.Uncertain.{Uncertain}
 use Rattle.uhura_plan.specs.Lists.{Lists}
 use Rattle.uhura_plan.specs.Sound.{IsSound}
 use Rattle.uhura_net.proofs.Scaled.{once}
-use Rattle.uhura_worst.specs.Proposal.{Proposal, least_left, greatest_left, Meets}
+use Rattle.uhura_worst.specs.Proposal.{Proposal, least_left, greatest_left, CoversAllDurations}
 use Rattle.uhura_worst.specs.Best.{StartsAtZero}
 use Rattle.uhura_worst.specs.WorstCase.{AreExtremes, LeavesRanges, MeetsWorstCase, extreme_times, excess}
 use Rattle.uhura_worst.proofs.SoundItems.{sound_uncertain}
@@ -40,5 +40,5 @@ AreExtremes-from_zero plan q sound leaves starts =
     }
 
 -- so they meet the worst case
-pub from_zero-meet : (plan : Lists) (q : Proposal) → IsSound plan → LeavesRanges plan 1 q → StartsAtZero plan q.times → Meets plan 1 q → MeetsWorstCase plan 1 q (times_from_zero plan q)
+pub from_zero-meet : (plan : Lists) (q : Proposal) → IsSound plan → LeavesRanges plan 1 q → StartsAtZero plan q.times → CoversAllDurations plan 1 q → MeetsWorstCase plan 1 q (times_from_zero plan q)
 from_zero-meet plan q sound leaves starts meets = extremes-meet plan 1 q (times_from_zero plan q) sound leaves (AreExtremes-from_zero plan q sound leaves starts) meets

@@ -8,7 +8,7 @@ use Rattle.uhura_plan.specs.declared.key.SideKey.{SideKey}
 use Rattle.uhura_plan.specs.declared.key.Item.{Item}
 use Rattle.uhura_plan.specs.declared.key.Item.TheVariants as item
 use Rattle.uhura_plan.specs.declared.key.EdgeKey.{EdgeKey}
-use Rattle.uhura_plan.specs.declared.key.EdgeKey.TheVariants.{Loose, Firm, Order}
+use Rattle.uhura_plan.specs.declared.key.EdgeKey.TheVariants.{Loose, Firm, Order, Steep}
 use Rattle.uhura_plan.specs.declared.requirement.Requirement.{Requirement}
 use Rattle.uhura_plan.specs.declared.uncertain.Uncertain.{Uncertain}
 use Rattle.uhura_plan.specs.Lists.{Lists}
@@ -72,6 +72,7 @@ by_requirement : (plan : Lists) (q : Proposal) (times : ℕ → ℤ) (key : Edge
     option_and_then (λ (r : Requirement). loosened_requirement q.branch q.units r key) found ≡ Some edge → Keeps times edge
 by_requirement plan q times key edge slot None worst of found is = absurd (let never : ⊥ = cc in never)
 by_requirement plan q times (Loose key) edge slot (Some r) worst of found is = absurd (let never : ⊥ = cc in never)
+by_requirement plan q times (Steep key) edge slot (Some r) worst of found is = absurd (let never : ⊥ = cc in never)
 by_requirement plan q times (Order d) edge slot (Some r) worst of found is = absurd (let never : ⊥ = cc in never)
 by_requirement plan q times (Firm key) edge slot (Some r) worst of found is =
     let member : Contains plan.requirements r = Contains-found (λ (s : Requirement). nat_eq s.slot slot) plan.requirements r found in
@@ -86,6 +87,7 @@ by_duration : (plan : Lists) (q : Proposal) (times : ℕ → ℤ) (key : EdgeKey
     option_and_then (λ (u : Uncertain). narrowed_duration q.units d u key) found ≡ Some edge → Keeps times edge
 by_duration plan q times key edge d None worst of found is = absurd (let never : ⊥ = cc in never)
 by_duration plan q times (Loose key) edge d (Some u) worst of found is = absurd (let never : ⊥ = cc in never)
+by_duration plan q times (Steep key) edge d (Some u) worst of found is = absurd (let never : ⊥ = cc in never)
 by_duration plan q times (Order e) edge d (Some u) worst of found is =
     subst (Keeps times) (same_Some (loosened_edge 1 0 (order_constraint d)) edge is) (worst.order d u found)
 by_duration plan q times (Firm key) edge d (Some u) worst of found is =

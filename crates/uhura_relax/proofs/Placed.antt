@@ -12,25 +12,26 @@ use Rattle.uhura_plan.specs.declared.uncertain.Uncertain.{Uncertain}
 use Rattle.uhura_plan.specs.Lists.{Lists}
 use Rattle.uhura_plan.specs.Find.{requirement_in}
 use Rattle.uhura_choice.specs.declared.prefix.Pick.{Pick}
+use Rattle.uhura_net.specs.declared.place.TheConstants.{PLACES}
 use Rattle.uhura_net.specs.declared.edge.Edge.{Edge}
 use Rattle.uhura_net.specs.Edges.{Edges, chosen_edges}
 use Rattle.uhura_net.specs.Place.{place_number, HasPlace, StandsAt}
 use Rattle.uhura_worst.specs.Edges.{edge_among, item_of}
 use Rattle.uhura_worst.specs.Filled.{IsFilledBy}
-use Rattle.uhura_relax.specs.Loosened.{loosened_tables, loosened_edge_of, turned, turned_tables, AreLoosenedEdges}
+use Rattle.uhura_relax.specs.Loosened.{loosened_tables, loosened_edge_of, turn_around, turned_tables, AreLoosenedEdges}
 use Rattle.uhura_relax.proofs.Turning.{turned_edges, turned-twice}
 use Rattle.uhura_net.proofs.Keys.{key_at}
 
--- each place below 9,472 is chosen, and no other
+-- each place below `PLACES` is chosen, and no other
 pub record AreAllChosen (chosen : List Bool) : Type 0 where
-  pub each : (place : ℕ) → place < 9472 → get_or chosen place false ≡ true
-  pub others : (place : ℕ) → 9472 ≤ place → get_or chosen place false ≡ false
+  pub each : (place : ℕ) → place < PLACES → get_or chosen place false ≡ true
+  pub others : (place : ℕ) → PLACES ≤ place → get_or chosen place false ≡ false
 
-pub AreAllChosen-filled : (chosen : List Bool) → chosen ≡ replicate 9472 true → AreAllChosen chosen
+pub AreAllChosen-filled : (chosen : List Bool) → chosen ≡ replicate PLACES true → AreAllChosen chosen
 AreAllChosen-filled chosen filled = record {
-  each = λ place below. ap (λ (c : List Bool). get_or c place false) filled ∙ get_or-replicate 9472 place true false below;
+  each = λ place below. ap (λ (c : List Bool). get_or c place false) filled ∙ get_or-replicate PLACES place true false below;
   others = λ place past.
-      get_or_past chosen place false (omega (arith, past, ap length filled, length-replicate {A = Bool} 9472 true));
+      get_or_past chosen place false (omega (arith, past, ap length filled, length-replicate {A = Bool} PLACES true));
 }
 
 -- the loosened edges at their places
@@ -40,20 +41,20 @@ pub record AreAtTheirPlaces (plan : Lists) (branch : List Pick) (units : SideKey
 
 -- what the tables of turned edges have among an item's is what the others have, turned around
 turned_among : (plan : Lists) (branch : List Pick) (units : SideKey → ℕ) (key : EdgeKey) (of : Item) →
-    edge_among (turned_tables branch units) plan key of ≡ option_map turned (edge_among (loosened_tables branch units) plan key of)
+    edge_among (turned_tables branch units) plan key of ≡ option_map turn_around (edge_among (loosened_tables branch units) plan key of)
 turned_among plan branch units key (item.Requirement slot) = by (requirement_in plan slot)
   where
-    by : (o : Option Requirement) → option_and_then (λ (r : Requirement). (turned_tables branch units).of_requirement r key) o ≡ option_map turned (option_and_then (λ (r : Requirement). (loosened_tables branch units).of_requirement r key) o)
+    by : (o : Option Requirement) → option_and_then (λ (r : Requirement). (turned_tables branch units).of_requirement r key) o ≡ option_map turn_around (option_and_then (λ (r : Requirement). (loosened_tables branch units).of_requirement r key) o)
     by None = refl
     by (Some r) = refl
 turned_among plan branch units key (item.Uncertain d) = by (slice_get plan.uncertains d)
   where
-    by : (o : Option Uncertain) → option_and_then (λ (u : Uncertain). (turned_tables branch units).of_duration d u key) o ≡ option_map turned (option_and_then (λ (u : Uncertain). (loosened_tables branch units).of_duration d u key) o)
+    by : (o : Option Uncertain) → option_and_then (λ (u : Uncertain). (turned_tables branch units).of_duration d u key) o ≡ option_map turn_around (option_and_then (λ (u : Uncertain). (loosened_tables branch units).of_duration d u key) o)
     by None = refl
     by (Some u) = refl
 
--- a place of a key is below 9,472
-below_places : (key : EdgeKey) → HasPlace key → place_number key < 9472
+-- a place of a key is below `PLACES`
+below_places : (key : EdgeKey) → HasPlace key → place_number key < PLACES
 below_places key placed = search rules
 
 chosen_at : (table : List (Option Edge)) (chosen : List Bool) (place : ℕ) → get_or chosen place false ≡ true → chosen_edges table chosen place ≡ get_or table place None
@@ -65,7 +66,7 @@ none_at table chosen place is = ap (λ (b : Bool). if b then get_or table place 
 at_key : (plan : Lists) (branch : List Pick) (units : SideKey → ℕ) (table : List (Option Edge)) (chosen : List Bool) → AreAllChosen chosen → IsFilledBy (turned_tables branch units) plan table →
     (key : EdgeKey) → HasPlace key → turned_edges (chosen_edges table chosen) (place_number key) ≡ loosened_edge_of plan branch units key
 at_key plan branch units table chosen all filled key placed =
-    ap (option_map turned)
+    ap (option_map turn_around)
     (chosen_at table chosen (place_number key) (all.each (place_number key) (below_places key placed))
     ∙ filled key placed
     ∙ turned_among plan branch units key (item_of key))
@@ -76,7 +77,7 @@ pub AreAtTheirPlaces-turned : (plan : Lists) (branch : List Pick) (units : SideK
 AreAtTheirPlaces-turned plan branch units table chosen all filled = record {
   at_key = at_key plan branch units table chosen all filled;
   loosened = λ place edge is.
-      elim (cases_lt place 9472) [
+      elim (cases_lt place PLACES) [
         | inl below ↦
             let found : (key : EdgeKey) × StandsAt place key = key_at place below in (
               found.0,
@@ -85,7 +86,7 @@ AreAtTheirPlaces-turned plan branch units table chosen all filled = record {
               sym (at_key plan branch units table chosen all filled found.0 found.1.0) ∙ ap (turned_edges (chosen_edges table chosen)) found.1.1 ∙ is,
             )
         | inr past ↦
-            let none : option_map turned (chosen_edges table chosen place) ≡ None = ap (option_map turned) (none_at table chosen place (all.others place past)) in
+            let none : option_map turn_around (chosen_edges table chosen place) ≡ None = ap (option_map turn_around) (none_at table chosen place (all.others place past)) in
             absurd (let never : ⊥ = cc in never)
       ];
 }

@@ -10,17 +10,17 @@ use Rattle.uhura_net.specs.declared.edge.Edge.{Edge}
 use Rattle.uhura_net.specs.declared.place.Place.{Place}
 use Rattle.uhura_net.specs.Edges.{Edges, no_edge, edge_at}
 use Rattle.uhura_net.specs.Walk.{Leads, IsClosedWalk, bounds_of, edges_at, IsNegativeWalk}
-use Rattle.uhura_relax.specs.Loosened.{turned}
+use Rattle.uhura_relax.specs.Loosened.{turn_around}
 use Rattle.uhura_relax.proofs.Turning.{turned_edges}
 
 -- the turned edge at a place, also where there is none
-turned_at : (at : Option Edge) → unwrap_or (option_map turned at) no_edge ≡ turned (unwrap_or at no_edge)
+turned_at : (at : Option Edge) → unwrap_or (option_map turn_around at) no_edge ≡ turn_around (unwrap_or at no_edge)
 turned_at None = refl
 turned_at (Some edge) = refl
 
 -- the first place of a walk is the last of it backward
 backward : (edges : Edges) (place : Place) (places : List Place) →
-    edges_at (turned_edges edges) (reverse (place ∷ places)) ≡ edges_at (turned_edges edges) (reverse places) ++ turned (edge_at edges place.0) ∷ []
+    edges_at (turned_edges edges) (reverse (place ∷ places)) ≡ edges_at (turned_edges edges) (reverse places) ++ turn_around (edge_at edges place.0) ∷ []
 backward edges place places =
     ap (edges_at (turned_edges edges)) (reverse_onto places place [])
     ∙ map-append (λ (p : Place). edge_at (turned_edges edges) p.0) (reverse places) (place ∷ [])
@@ -40,19 +40,19 @@ Leads-backward : (edges : Edges) (from to : ℕ) (places : List Place) → Leads
 Leads-backward edges from to [] leads = sym leads
 Leads-backward edges from to (place ∷ places) leads =
     subst (λ (walk : List Edge). Leads to walk from) (sym (backward edges place places))
-    (Leads-append to (edge_at edges place.0).to from (edges_at (turned_edges edges) (reverse places)) (turned (edge_at edges place.0) ∷ [])
+    (Leads-append to (edge_at edges place.0).to from (edges_at (turned_edges edges) (reverse places)) (turn_around (edge_at edges place.0) ∷ [])
     (Leads-backward edges (edge_at edges place.0).to to places leads.1) (refl, leads.0))
 
 -- and its bounds sum to the same
 bounds_of-backward : (edges : Edges) (places : List Place) → bounds_of (edges_at (turned_edges edges) (reverse places)) ≡ bounds_of (edges_at edges places)
 bounds_of-backward edges [] = refl
 bounds_of-backward edges (place ∷ places) =
-    let last : bounds_of (edges_at (turned_edges edges) (reverse places) ++ turned (edge_at edges place.0) ∷ []) ≡ (bounds_of (edges_at (turned_edges edges) (reverse places)) +ℤ ((edge_at edges place.0).bound +ℤ pos 0)) =
-    bounds_of-append (edges_at (turned_edges edges) (reverse places)) (turned (edge_at edges place.0) ∷ []) in
+    let last : bounds_of (edges_at (turned_edges edges) (reverse places) ++ turn_around (edge_at edges place.0) ∷ []) ≡ (bounds_of (edges_at (turned_edges edges) (reverse places)) +ℤ ((edge_at edges place.0).bound +ℤ pos 0)) =
+    bounds_of-append (edges_at (turned_edges edges) (reverse places)) (turn_around (edge_at edges place.0) ∷ []) in
     omega (arith, ints, ap bounds_of (backward edges place places), last, bounds_of-backward edges places)
 
 -- its edges are there
-there-turned : (at : Option Edge) → IsSome at → IsSome (option_map turned at)
+there-turned : (at : Option Edge) → IsSome at → IsSome (option_map turn_around at)
 there-turned None there = there
 there-turned (Some edge) there = there
 
@@ -76,7 +76,7 @@ IsClosedWalk-backward edges (place ∷ places) closed =
     let node : ℕ = (edge_at edges place.0).from in
     let around : Leads node (edges_at (turned_edges edges) (reverse (place ∷ places))) node = Leads-backward edges node node (place ∷ places) (refl, closed) in
     subst IsClosedWalk (sym (backward edges place places))
-    (IsClosedWalk-around node (edges_at (turned_edges edges) (reverse places)) (turned (edge_at edges place.0))
+    (IsClosedWalk-around node (edges_at (turned_edges edges) (reverse places)) (turn_around (edge_at edges place.0))
     (subst (λ (walk : List Edge). Leads node walk node) (backward edges place places) around))
 
 -- so one whose bounds sum below 0 is such a walk backward

@@ -1,16 +1,16 @@
-//! The earliest schedule of a branch with some sides loosened or narrowed: what it is, and why there may be none, stands
-//! in `specs/Schedule.antt`, and the edges whose times it takes in `specs/Loosened.antt`.
+//! The earliest schedule of a branch with some sides loosened or narrowed: what it is, and why there may be none,
+//! stands in `specs/Schedule.antt`, and the edges whose times it takes in `specs/Loosened.antt`.
 #![tactic(auto)]
 
+mod earliest;
 mod loosened;
 mod refusal;
-mod relaxing;
 mod schedule;
 mod scratch;
 #[cfg(test)]
 mod tests;
 
+pub use earliest::{earliest, earliest_in};
 pub use refusal::RelaxRefusal;
-pub use relaxing::{earliest, earliest_in};
 pub use schedule::Schedule;
 pub use scratch::RelaxScratch;

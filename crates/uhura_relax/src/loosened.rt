@@ -3,15 +3,15 @@ ghost use Rattle.std.specs.Prelude.{◌≡◌, ℕ, ◌≤◌, false};
 ghost use Rattle.uhura_net.specs.Place.{is_loose};
 ghost use Rattle.uhura_net.specs.Table.{IsEdgeFor};
 ghost use Rattle.uhura_worst.specs.Edges.{IsSoundConstraint};
-ghost use Rattle.uhura_worst.specs.Units.{units_in};
+ghost use Rattle.uhura_worst.specs.Units.{side_units};
 ghost use Rattle.uhura_worst.specs.Filled.{IsFilledBy};
 ghost use Rattle.uhura_worst.specs.WorstCase.{loosened_edge};
-ghost use Rattle.uhura_relax.specs.Loosened.{turned, turned_tables};
+ghost use Rattle.uhura_relax.specs.Loosened.{turn_around, turned_tables};
 
 use uhura_choice::{Branch, holds};
-use uhura_net::{Edge, EdgeTable};
+use uhura_net::{Edge, EdgeTable, FIRM_CAPACITY};
 use uhura_plan::{EdgeKey, Plan, Requirement, Uncertain};
-use uhura_worst::constraint::{Constraint, FIRM_CAPACITY};
+use uhura_worst::constraint::Constraint;
 use uhura_worst::{Loosening, Tables, fill_by};
 
 /// Makes each place of the table hold its loosened edge, turned around.
@@ -21,12 +21,12 @@ pub(crate) fn fill_turned(
     branch: &Branch,
     loosening: &Loosening,
 )
-    ensures { IsFilledBy (turned_tables branch.now (units_in loosening.now)) plan.now table.new }
+    ensures { IsFilledBy (turned_tables branch.now (side_units loosening.now)) plan.now table.new }
 {
     fill_by(table, plan, &Loosened { branch, loosening });
 }
 
-// Which requirements are active, and by how much each side is loosened or narrowed.
+/// Which requirements are active, and by how much each side is loosened or narrowed.
 #[derive(Clone, Copy)]
 struct Loosened<'a> {
     branch: &'a Branch,
@@ -34,7 +34,7 @@ struct Loosened<'a> {
 }
 
 impl Tables for Loosened<'_> {
-    ghost tables = { λ l. turned_tables l.branch.now (units_in l.loosening.now) };
+    ghost tables = { λ l. turned_tables l.branch.now (side_units l.loosening.now) };
 
     fn requirement_edge(&self, requirement: &Requirement, key: EdgeKey) -> Option<Edge> {
         let EdgeKey::Firm(side) = key else {
@@ -51,7 +51,7 @@ impl Tables for Loosened<'_> {
 
     fn duration_edge(&self, duration: u32, uncertain: &Uncertain, key: EdgeKey) -> Option<Edge> {
         match key {
-            EdgeKey::Loose(_) => None,
+            EdgeKey::Loose(_) | EdgeKey::Steep(_) => None,
             EdgeKey::Firm(side) => {
                 let constraint = Constraint::of_duration(side.side, duration, uncertain);
                 Some(turned_edge(constraint, self.loosening.units(side)))
@@ -61,11 +61,11 @@ impl Tables for Loosened<'_> {
     }
 }
 
-// The edge of a constraint that is loosened by so many units, turned around.
+/// The edge of a constraint that is loosened by so many units, turned around.
 fn turned_edge(constraint: Constraint, units: u64) -> Edge
     requires constraint { IsSoundConstraint constraint }
     requires units { units ≤ 10_000_000_000_000 }
-    ensures edge { result ≡ turned (loosened_edge 1 units constraint) }
+    ensures edge { result ≡ turn_around (loosened_edge 1 units constraint) }
     ensures fits { (place : ℕ) → is_loose place ≡ false → IsEdgeFor place result }
 {
     Edge {

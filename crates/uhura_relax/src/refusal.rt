@@ -6,8 +6,8 @@ use uhura_net::Place;
 /// Why a branch has no schedule with the units given.
 #[derive(Debug, Drop, Error)]
 pub enum RelaxRefusal {
-    /// The loosened bounds clash: those at the places of this closed walk, in order, sum below 0. An edge of a side is
-    /// named by its firm place, whether or not an edge of the worst case stands there.
+    /// The loosened bounds clash: those at the places of this closed walk, in order, sum below 0. An edge of a side
+    /// is named by its firm place, whether or not an edge of the worst case stands there.
     #[error("the bounds on a closed walk sum below 0")]
     Broken { cycle: Vec<Place> },
     /// Memory ran out.

@@ -40,7 +40,7 @@ impl Schedule {
     }
 }
 
-// How far each time is from 0.
+/// How far each time is from 0.
 fn opposites(alloc: Global, times: &[i64]) -> Result<Vec<u64>, AllocError>
     ensures { IfOk result (λ opposites. opposites.items ≡ map unsigned_abs times.now) }
 {

@@ -6,8 +6,8 @@ use std::alloc::{AllocError, Global};
 use uhura_cycle::Scratch;
 use uhura_net::{EdgeTable, PLACES};
 
-/// Room for the search for earliest schedules: a table of edges, flags that choose each place of it, and what the solver
-/// needs. Only `new` takes memory.
+/// Room for the search for earliest schedules: a table of edges, flags that choose each place of it, and what the
+/// solver needs. Only `new` takes memory.
 #[derive(Drop)]
 pub struct RelaxScratch {
     pub(crate) table: EdgeTable,

@@ -9,7 +9,7 @@ use uhura_choice::first_branch;
 use uhura_plan::{Bounded, EditRefusal, Name, Plan};
 use uhura_worst::Loosening;
 
-// One of three controllable events, or the end of the duration, which starts at the first.
+/// One of three controllable events, or the end of the duration, which starts at the first.
 #[derive(Clone, Copy)]
 enum At {
     A,
@@ -18,7 +18,7 @@ enum At {
     End,
 }
 
-// A requirement: its name, the two events, and its bounds.
+/// A requirement: its name, the two events, and its bounds.
 type Between = (&'static str, At, At, (i8, i8));
 
 fn name(rt: &impl Abort, text: &str) -> Name {
@@ -50,7 +50,7 @@ fn require(rt: &impl Abort, plan: &mut Plan, between: &Between) -> Result<(), Ed
     plan.add_requirement(name(rt, own), from, to, lower, upper, &[])
 }
 
-// Three events and a duration of these lengths.
+/// Three events and a duration of these lengths.
 fn three_events(rt: &impl Abort, alloc: Global, lengths: (u8, u8)) -> Result<Plan, Fail> {
     let mut plan = Plan::new(alloc)?;
     plan.add_event(name(rt, "a"))?;
@@ -62,7 +62,7 @@ fn three_events(rt: &impl Abort, alloc: Global, lengths: (u8, u8)) -> Result<Pla
     Ok(plan)
 }
 
-// The times of the three events in the earliest schedule, if there is one.
+/// The times of the three events in the earliest schedule, if there is one.
 fn found(rt: &impl Abort, alloc: Global, plan: &Plan) -> Option<[Option<u64>; 3]> {
     // By its type the plan has no empty range.
     let _ = plan.events();
@@ -74,7 +74,7 @@ fn found(rt: &impl Abort, alloc: Global, plan: &Plan) -> Option<[Option<u64>; 3]
     }
 }
 
-// The time of an event, where the duration takes so long.
+/// The time of an event, where the duration takes so long.
 fn time(event: At, times: [u8; 3], length: u8) -> i16 {
     match event {
         At::A => i16::from(times[0]),
@@ -84,7 +84,7 @@ fn time(event: At, times: [u8; 3], length: u8) -> i16 {
     }
 }
 
-// Whether a requirement is met, where the duration takes so long.
+/// Whether a requirement is met, where the duration takes so long.
 fn is_met(between: &Between, times: [u8; 3], length: u8) -> bool {
     let (_, from, to, bounds) = *between;
     let (from, to) = (time(from, times, length), time(to, times, length));
@@ -92,7 +92,7 @@ fn is_met(between: &Between, times: [u8; 3], length: u8) -> bool {
     i32::from(bounds.0) <= difference && difference <= i32::from(bounds.1)
 }
 
-// Whether all are, at the shortest and at the longest.
+/// Whether all are, at the shortest and at the longest.
 fn are_met(requirements: &[Between], times: [u8; 3], lengths: (u8, u8)) -> bool {
     for between in requirements {
         if !is_met(between, times, lengths.0) || !is_met(between, times, lengths.1) {
@@ -102,7 +102,7 @@ fn are_met(requirements: &[Between], times: [u8; 3], lengths: (u8, u8)) -> bool 
     true
 }
 
-// The least of two times at each event.
+/// The least of two times at each event.
 fn least(a: Option<[u8; 3]>, b: [u8; 3]) -> Option<[u8; 3]> {
     match a {
         Some(a) => Some([a[0].min(b[0]), a[1].min(b[1]), a[2].min(b[2])]),
@@ -110,7 +110,7 @@ fn least(a: Option<[u8; 3]>, b: [u8; 3]) -> Option<[u8; 3]> {
     }
 }
 
-// At each event the least of all times from 0 to 6 with which the requirements are met.
+/// At each event the least of all times from 0 to 6 with which the requirements are met.
 fn enumerated(requirements: &[Between], lengths: (u8, u8)) -> Option<[u8; 3]> {
     let mut times = None;
     for a in 0..7 {
@@ -125,7 +125,7 @@ fn enumerated(requirements: &[Between], lengths: (u8, u8)) -> Option<[u8; 3]> {
     times
 }
 
-// Both ways on one plan.
+/// Both ways on one plan.
 fn compare(
     rt: &impl Abort,
     alloc: Global,

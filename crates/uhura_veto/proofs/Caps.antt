@@ -4,11 +4,12 @@ use Rattle.std.specs.Prelude.{if◌then◌else◌, min}
 use Rattle.std.proofs.lemmas.List.{take_more}
 use Rattle.std.proofs.lemmas.List.Sums.{fold-append}
 use Rattle.uhura_plan.specs.declared.key.SideKey.{SideKey}
+use Rattle.uhura_plan.specs.Keys.{is_same_key}
 use Rattle.uhura_veto.specs.declared.veto.Veto.{Veto}
 use Rattle.uhura_veto.specs.declared.veto.Veto.TheVariants.{Deny, Cap}
 use Rattle.uhura_veto.specs.declared.room.Room.{Room}
 use Rattle.uhura_veto.specs.declared.room.Room.TheVariants.{Units, Unlimited}
-use Rattle.uhura_veto.specs.Room.{is_same_key, caps_on, least_with}
+use Rattle.uhura_veto.specs.Room.{caps_on, least_with}
 
 -- the caps of two lists together
 caps_on-append : (key : SideKey) (xs ys : List Veto) → caps_on key (xs ++ ys) ≡ caps_on key xs ++ caps_on key ys

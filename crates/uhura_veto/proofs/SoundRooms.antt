@@ -3,13 +3,14 @@ use Rattle.std.proofs.Common.{ℕ, ◌≤◌, Bool, true, false, List, [], ◌�
 use Rattle.std.specs.Prelude.{if◌then◌else◌, min, fold}
 use Rattle.std.proofs.lemmas.List.Elements.{All-head, All-tail}
 use Rattle.uhura_plan.specs.declared.key.SideKey.{SideKey}
+use Rattle.uhura_plan.specs.Keys.{is_same_key}
 use Rattle.uhura_plan.specs.Limits.{IsAmount}
 use Rattle.uhura_veto.specs.declared.veto.Veto.{Veto}
 use Rattle.uhura_veto.specs.declared.veto.Veto.TheVariants.{Deny, Cap}
 use Rattle.uhura_veto.specs.declared.room.Room.{Room}
 use Rattle.uhura_veto.specs.declared.room.Room.TheVariants.{Units, Unlimited}
 use Rattle.uhura_veto.specs.Vetoes.{IsSoundVeto}
-use Rattle.uhura_veto.specs.Room.{is_same_key, caps_on, least_of, least_with, IsSoundRoom}
+use Rattle.uhura_veto.specs.Room.{caps_on, least_of, least_with, IsSoundRoom}
 
 -- the least of some numbers is at most the first
 pub fold-min_le : (x : ℕ) (xs : List ℕ) → fold min x xs ≤ x

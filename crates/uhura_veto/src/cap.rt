@@ -1,10 +1,10 @@
 //! What the caps on a side leave of its room.
 ghost use Rattle.std.specs.Prelude.{◌≡◌, [], ◌∷◌, All};
-ghost use Rattle.uhura_veto.specs.Room.{is_same_key, caps_on, least_with, IsSoundRoom};
+ghost use Rattle.uhura_veto.specs.Room.{caps_on, least_with, IsSoundRoom};
 ghost use Rattle.uhura_veto.specs.Vetoes.{IsSoundVeto};
 
 use crate::{Room, Veto};
-use uhura_plan::SideKey;
+use uhura_plan::{SideKey, is_same_key};
 
 /// The least of a limit and the caps on a side.
 pub(crate) fn under_caps(limit: Room, vetoes: &[Veto], key: SideKey) -> Room
@@ -18,7 +18,7 @@ pub(crate) fn under_caps(limit: Room, vetoes: &[Veto], key: SideKey) -> Room
     room
 }
 
-// The room that is left where the veto may be a cap on the side.
+/// The room that is left where the veto may be a cap on the side.
 fn under_cap(room: Room, veto: &Veto, key: SideKey) -> Room
     ensures { result ≡ least_with room (caps_on key (veto.now ∷ [])) }
 {
@@ -32,7 +32,7 @@ fn under_cap(room: Room, veto: &Veto, key: SideKey) -> Room
     }
 }
 
-// The room, but no more than so many units.
+/// The room, but no more than so many units.
 fn at_most(room: Room, units: u64) -> Room
     ensures { result ≡ least_with room (units ∷ []) }
 {
@@ -40,11 +40,4 @@ fn at_most(room: Room, units: u64) -> Room
         Room::Units(most) => Room::Units(most.min(units)),
         Room::Unlimited => Room::Units(units),
     }
-}
-
-// Whether two keys name one side.
-fn is_same_key(a: SideKey, b: SideKey) -> bool
-    ensures { result ≡ is_same_key a b }
-{
-    a == b
 }

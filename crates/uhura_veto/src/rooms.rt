@@ -2,7 +2,8 @@
 ghost use Rattle.std.specs.Prelude.{◌≡◌, ℕ, option_to_list};
 ghost use Rattle.uhura_plan.specs.Limits.{AreWithinLimits, IsAmount, IsPrice};
 ghost use Rattle.uhura_plan.specs.Sound.{IsSoundUncertain};
-ghost use Rattle.uhura_veto.specs.Room.{least_of, width_of, room_of, requirement_room, duration_room, IsSoundRoom};
+ghost use Rattle.uhura_veto.specs.Room.{least_of, width_of, room_of, requirement_room};
+ghost use Rattle.uhura_veto.specs.Room.{duration_room, IsSoundRoom};
 
 use crate::cap::under_caps;
 use crate::{Room, Vetoes};
@@ -30,10 +31,7 @@ pub fn requirement_room(vetoes: &Vetoes, side: Side, requirement: &Requirement) 
     ensures room { result ≡ requirement_room vetoes.now side requirement.now }
     ensures small { AreWithinLimits requirement.now.lower → AreWithinLimits requirement.now.upper → IsSoundRoom result }
 {
-    let bounded = match side {
-        Side::Lower => requirement.lower,
-        Side::Upper => requirement.upper,
-    };
+    let bounded = requirement.bounded(side);
     let key = SideKey {
         item: Item::Requirement(requirement.slot),
         side,
@@ -50,21 +48,17 @@ pub fn duration_room(vetoes: &Vetoes, duration: u32, side: Side, uncertain: &Unc
     ensures room { result ≡ duration_room vetoes.now duration side uncertain.now }
     ensures small { (events : ℕ) → IsSoundUncertain events uncertain.now → IsSoundRoom result }
 {
-    let rate = match side {
-        Side::Lower => uncertain.lower_rate,
-        Side::Upper => uncertain.upper_rate,
-    };
     let key = SideKey {
         item: Item::Uncertain(duration),
         side,
     };
-    match rate {
+    match uncertain.rate(side) {
         Some(_) => under_caps(Room::Units(width(uncertain)), vetoes.items(), key),
         None => Room::Units(0),
     }
 }
 
-// What a price limits the loosening to.
+/// What a price limits the loosening to.
 fn limit(price: Price) -> Room
     ensures limit { result ≡ least_of (option_to_list price.most) }
     ensures small { IsPrice price → IsSoundRoom result }
@@ -75,7 +69,7 @@ fn limit(price: Price) -> Room
     }
 }
 
-// How wide the range of a duration is.
+/// How wide the range of a duration is.
 fn width(uncertain: &Uncertain) -> u64
     ensures width { result ≡ width_of uncertain.now }
     ensures small { (events : ℕ) → IsSoundUncertain events uncertain.now → IsAmount result }

@@ -6,12 +6,13 @@ use Rattle.std.proofs.lemmas.Int.{ints}
 use Rattle.uhura_plan.specs.declared.key.Item.{Item}
 use Rattle.uhura_plan.specs.declared.key.Item.TheVariants as item
 use Rattle.uhura_plan.specs.declared.key.EdgeKey.{EdgeKey}
-use Rattle.uhura_plan.specs.declared.key.EdgeKey.TheVariants.{Loose, Firm, Order}
+use Rattle.uhura_plan.specs.declared.key.EdgeKey.TheVariants.{Loose, Firm, Order, Steep}
 use Rattle.uhura_plan.specs.declared.requirement.Requirement.{Requirement}
 use Rattle.uhura_plan.specs.declared.uncertain.Uncertain.{Uncertain}
 use Rattle.uhura_plan.specs.Find.{requirement_in}
 use Rattle.uhura_plan.specs.Sound.{IsSound}
 use Rattle.uhura_choice.specs.Branch.{holds}
+use Rattle.uhura_net.specs.declared.edge.TheConstants.{FIRM_CAPACITY}
 use Rattle.uhura_net.specs.declared.edge.Edge.{Edge}
 use Rattle.uhura_net.specs.Edges.{Keeps, KeepsAt}
 use Rattle.uhura_net.specs.Place.{is_loose_key}
@@ -32,7 +33,7 @@ use Rattle.uhura_worst.proofs.WorstCase.{extremes-meet, extreme_times-are}
 firm-kept : (k : ℕ) (times : ℕ → ℤ) (room : Room) (c : Constraint) (units : ℕ) (edge : Edge) → Keeps times (loosened_edge k units c) → IsWithinRoom k room units → firm_edge room c ≡ Some edge → KeepsAt k times edge
 firm-kept k times Unlimited c units edge kept within is = absurd (let never : ⊥ = cc in never)
 firm-kept k times (Units most) c units edge kept within is =
-    let firm : Edge = record { from = c.from; to = c.to; bound = c.bound +ℤ pos most; capacity = 10000000000 } in
+    let firm : Edge = record { from = c.from; to = c.to; bound = c.bound +ℤ pos most; capacity = FIRM_CAPACITY } in
     let same : firm ≡ edge = cc in
     let moved : KeepsAt k times firm = omega (arith, ints, kept, within, scaled-plus k c.bound (pos most)) in
     subst (KeepsAt k times) same moved
@@ -47,6 +48,7 @@ requirement-kept : (state : State) (k : ℕ) (q : Proposal) (times : ℕ → ℤ
     requirement_in state.plan slot ≡ found → option_and_then (λ (r : Requirement). requirement_edge state.vetoes r key) found ≡ Some edge → IsFalse (is_loose_key key) → IsTrue (option_map_or (λ (r : Requirement). holds r.guard q.branch) found false) → KeepsAt k times edge
 requirement-kept state k q times slot key edge None allowed worst found is firm active = absurd (let never : ⊥ = cc in never)
 requirement-kept state k q times slot (Loose key) edge (Some r) allowed worst found is firm active = absurd (true≢false firm)
+requirement-kept state k q times slot (Steep key) edge (Some r) allowed worst found is firm active = absurd (true≢false firm)
 requirement-kept state k q times slot (Order d) edge (Some r) allowed worst found is firm active = absurd (let never : ⊥ = cc in never)
 requirement-kept state k q times slot (Firm key) edge (Some r) allowed worst found is firm active =
     let member : Contains state.plan.requirements r = Contains-found _ state.plan.requirements r found in
@@ -57,6 +59,7 @@ duration-kept : (state : State) (k : ℕ) (q : Proposal) (times : ℕ → ℤ) (
     slice_get state.plan.uncertains d ≡ found → option_and_then (λ (u : Uncertain). duration_edge state.vetoes d u key) found ≡ Some edge → IsFalse (is_loose_key key) → KeepsAt k times edge
 duration-kept state k q times d key edge None allowed worst found is firm = absurd (let never : ⊥ = cc in never)
 duration-kept state k q times d (Loose key) edge (Some u) allowed worst found is firm = absurd (true≢false firm)
+duration-kept state k q times d (Steep key) edge (Some u) allowed worst found is firm = absurd (true≢false firm)
 duration-kept state k q times d (Order e) edge (Some u) allowed worst found is firm =
     firm-kept k times (Units 0) (order_constraint d) 0 edge (worst.order d u found) (omega arith) is
 duration-kept state k q times d (Firm key) edge (Some u) allowed worst found is firm =
@@ -68,7 +71,7 @@ pub allowed-keeps : (state : State) (k : ℕ) (q : Proposal) → IsSound state.p
 allowed-keeps state k q sound allowed key edge is firm active = by (item_of key) is active
   where
     worst : MeetsWorstCase state.plan k q (extreme_times state.plan k q)
-    worst = extremes-meet state.plan k q (extreme_times state.plan k q) sound allowed.ranges_left (extreme_times-are state.plan k q sound) allowed.meets
+    worst = extremes-meet state.plan k q (extreme_times state.plan k q) sound allowed.ranges_left (extreme_times-are state.plan k q sound) allowed.covers
 
     by : (of : Item) → edge_in state key of ≡ Some edge → IsTrue (is_active_item state.plan q.branch of) → KeepsAt k (extreme_times state.plan k q) edge
     by (item.Requirement slot) is active = requirement-kept state k q (extreme_times state.plan k q) slot key edge (requirement_in state.plan slot) allowed worst refl is firm active

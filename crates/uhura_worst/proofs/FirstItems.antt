@@ -13,7 +13,7 @@ use Rattle.uhura_plan.specs.declared.uncertain.Uncertain.{Uncertain}
 use Rattle.uhura_plan.specs.Lists.{Lists, slots}
 use Rattle.uhura_plan.specs.Find.{requirement_in}
 use Rattle.uhura_net.specs.declared.edge.Edge.{Edge}
-use Rattle.uhura_veto.specs.Room.{is_same_item}
+use Rattle.uhura_plan.specs.Keys.{is_same_item}
 use Rattle.uhura_worst.specs.Edges.{Tables, edge_among, item_of}
 use Rattle.uhura_worst.specs.Filled.{IsFilledBy, first_items, PutsItem}
 use Rattle.uhura_worst.proofs.SoundItems.{Contains-found}

@@ -1,10 +1,11 @@
 mod Single
+mod OneOfEach
 mod CappedDrive
 mod Puts
 pub mod FirstItems
 pub mod SoundItems
 pub mod WorstCase
-mod FirmEdges
+pub mod FirmEdges
 pub mod WholeTimes
 pub mod PassedUnits
 mod Pairs

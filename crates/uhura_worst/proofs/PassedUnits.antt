@@ -10,18 +10,21 @@ use Rattle.uhura_plan.specs.declared.key.Item.TheVariants as item
 use Rattle.uhura_plan.specs.declared.key.EdgeKey.TheVariants.{Firm, Order}
 use Rattle.uhura_plan.specs.declared.requirement.Requirement.{Requirement}
 use Rattle.uhura_plan.specs.declared.uncertain.Uncertain.{Uncertain}
+use Rattle.uhura_plan.specs.declared.price.Rate.{Rate}
 use Rattle.uhura_plan.specs.Find.{requirement_in}
+use Rattle.uhura_plan.specs.Sides.{rate_of}
 use Rattle.uhura_plan.specs.Sound.{IsSound, IsSoundUncertain}
 use Rattle.uhura_choice.specs.declared.prefix.Pick.{Pick}
 use Rattle.uhura_choice.specs.Branch.{holds, IsBranch}
+use Rattle.uhura_net.specs.declared.edge.TheConstants.{FIRM_CAPACITY}
 use Rattle.uhura_net.specs.declared.edge.Edge.{Edge}
 use Rattle.uhura_net.specs.Edges.{Keeps, KeepsAt}
-use Rattle.uhura_net.proofs.Scaled.{scaled_parts, scaled-plus}
+use Rattle.uhura_net.proofs.Scaled.{scaled_parts, scaled-plus, scaled-neg}
 use Rattle.uhura_veto.specs.declared.room.Room.{Room}
 use Rattle.uhura_veto.specs.declared.room.Room.TheVariants.{Units, Unlimited}
 use Rattle.uhura_veto.specs.State.{State}
 use Rattle.uhura_veto.specs.Denial.{is_denied}
-use Rattle.uhura_veto.specs.Room.{requirement_room, duration_room, room_to_narrow, rate_of, width_of, caps_on, IsWithinRoom}
+use Rattle.uhura_veto.specs.Room.{requirement_room, duration_room, room_to_narrow, width_of, caps_on, IsWithinRoom}
 use Rattle.uhura_veto.proofs.SoundRooms.{fold-min_le}
 use Rattle.uhura_worst.specs.declared.constraint.Constraint.{Constraint}
 use Rattle.uhura_worst.specs.Proposal.{loosened, narrowed, least_left, greatest_left}
@@ -31,7 +34,7 @@ use Rattle.uhura_worst.specs.Edges.{requirement_constraint, duration_constraint,
 use Rattle.uhura_worst.specs.WorstCase.{loosened_edge, MeetsWorstCase, KeepsFirmEdges, excess, passed_by, requirement_passed, proposal_at}
 use Rattle.uhura_worst.proofs.SoundItems.{sound_uncertain}
 use Rattle.uhura_worst.proofs.FirstItems.{requirement_in-member}
-use Rattle.uhura_worst.proofs.WorstCase.{covers, scaled-neg}
+use Rattle.uhura_worst.proofs.WorstCase.{covers}
 
 -- an integer is at most its excess, and that is at most each number that isn't below the integer
 le-excess : (z : ℤ) → z ≤ℤ pos (excess z)
@@ -55,7 +58,7 @@ passed-kept k times c = omega (arith, ints, le-excess ((times c.to -ℤ times c.
 passed-within : (k : ℕ) (times : ℕ → ℤ) (room : Room) (c : Constraint) → ((edge : Edge) → firm_edge room c ≡ Some edge → KeepsAt k times edge) → IsWithinRoom k room (passed_by k times c)
 passed-within k times Unlimited c keeps = tt
 passed-within k times (Units most) c keeps =
-    let firm : Edge = record { from = c.from; to = c.to; bound = c.bound +ℤ pos most; capacity = 10000000000 } in
+    let firm : Edge = record { from = c.from; to = c.to; bound = c.bound +ℤ pos most; capacity = FIRM_CAPACITY } in
     let kept : KeepsAt k times firm = keeps firm refl in
     excess-le ((times c.to -ℤ times c.from) -ℤ (pos k *ℤ c.bound)) (k * most) (omega (arith, ints, kept, scaled-plus k c.bound (pos most)))
 
@@ -112,7 +115,7 @@ narrowed-within state k branch times side d u keeps there =
     (ap (option_and_then (λ (v : Uncertain). firm_edge (duration_room state.vetoes d side v) (duration_constraint side d v))) there ∙ is) refl refl))
 
 -- so they are at most the width of the range
-within-width : (k : ℕ) (rate : Option ℕ) (width : ℕ) (caps : List ℕ) (units : ℕ) → IsWithinRoom k (room_to_narrow rate width caps) units → units ≤ k * width
+within-width : (k : ℕ) (rate : Option Rate) (width : ℕ) (caps : List ℕ) (units : ℕ) → IsWithinRoom k (room_to_narrow rate width caps) units → units ≤ k * width
 within-width k None width caps units within = omega (arith, within)
 within-width k (Some rate) width caps units within =
     let narrow : k * fold min width caps ≤ k * width = mul-le-mul_left k (fold-min_le width caps) in
@@ -126,7 +129,7 @@ width-scaled k lower upper ordered =
 -- the order edge is kept
 order-kept : (state : State) (k : ℕ) (branch : List Pick) (times : ℕ → ℤ) (d : ℕ) (u : Uncertain) → KeepsFirmEdges state k branch times → slice_get state.plan.uncertains d ≡ Some u → (times (least_end d) -ℤ times (greatest_end d)) ≤ℤ pos 0
 order-kept state k branch times d u keeps there =
-    let order : Edge = record { from = greatest_end d; to = least_end d; bound = pos 0 +ℤ pos 0; capacity = 10000000000 } in
+    let order : Edge = record { from = greatest_end d; to = least_end d; bound = pos 0 +ℤ pos 0; capacity = FIRM_CAPACITY } in
     let kept : KeepsAt k times order = keeps (Order d) order (ap (option_and_then (λ (v : Uncertain). firm_edge (Units 0) (order_constraint d))) there) refl refl in
     omega (arith, ints, kept, scaled_parts k (pos 0))
 
@@ -185,5 +188,5 @@ keeping-allowed state k branch times sound scale is_branch not_denied keeps = re
   loosened_active = λ side r member inactive. loosened-active state k branch times side r sound member inactive;
   narrowed_within = λ side d u is. narrowed-within state k branch times side d u keeps is;
   ranges_left = λ d u is. ranges-left state k branch times d u sound keeps is;
-  meets = covers state.plan k (proposal_at state.plan k branch times) times sound (λ e below. refl) (meets-worst_case state k branch times sound keeps);
+  covers = covers state.plan k (proposal_at state.plan k branch times) times sound (λ e below. refl) (meets-worst_case state k branch times sound keeps);
 }

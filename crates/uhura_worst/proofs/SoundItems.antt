@@ -1,16 +1,24 @@
 -- The items of a sound plan are sound, and have the nodes and bounds that their edges ask for.
-use Rattle.std.proofs.Common.{◌≡◌, ℕ, ◌<◌, Bool, List, length, Option, Some, slice_get, Contains, subst, arith}
-use Rattle.std.specs.Prelude.{find}
+use Rattle.std.proofs.Common.{◌≡◌, ℕ, ◌<◌, Bool, List, length, Option, None, Some, IfSome, slice_get, Contains, subst, arith}
+use Rattle.std.specs.Prelude.{find, option_map}
 use Rattle.std.proofs.lemmas.List.Folds.{find_at}
 use Rattle.std.specs.List.{position_or_len}
 use Rattle.std.proofs.lemmas.Option.{slice_get_within, get_or_from_slice_get}
 use Rattle.uhura_plan.specs.declared.key.EventRef.{EventRef}
 use Rattle.uhura_plan.specs.declared.key.EventRef.TheVariants.{Controllable, End}
+use Rattle.uhura_plan.specs.declared.key.Side.{Side}
+use Rattle.uhura_plan.specs.declared.key.Side.TheVariants.{Lower, Upper}
+use Rattle.uhura_plan.specs.declared.price.Price.{Price}
 use Rattle.uhura_plan.specs.declared.requirement.Requirement.{Requirement}
 use Rattle.uhura_plan.specs.declared.uncertain.Uncertain.{Uncertain}
 use Rattle.uhura_plan.specs.Lists.{Lists}
 use Rattle.uhura_plan.specs.Find.{requirement_in}
+use Rattle.uhura_plan.specs.Limits.{IsPrice, IsRate}
+use Rattle.uhura_plan.specs.Sides.{rate_in, loosening_rate, rate_of}
 use Rattle.uhura_plan.specs.Sound.{IsSound, IsSoundUncertain, IsSoundRequirement, IsEventAmong}
+use Rattle.uhura_plan.specs.declared.key.Item.TheVariants as item
+use Rattle.uhura_net.specs.Place.{IsPlacedItem}
+use Rattle.uhura_worst.specs.declared.node.TheConstants.{FIRST_OF_ENDS}
 use Rattle.uhura_worst.specs.Nodes.{HasNode, HasNodes}
 
 -- what is looked up at a place is in the list
@@ -31,10 +39,10 @@ pub sound_requirement : (plan : Lists) (r : Requirement) → IsSound plan → Co
 sound_requirement plan r sound (place, below, is) = subst (IsSoundRequirement plan) is (sound.requirements place r below)
 
 -- their events have nodes
-pub uncertain-placed : (plan : Lists) (d : ℕ) (u : Uncertain) → IsSound plan → slice_get plan.uncertains d ≡ Some u → d < 256
+pub uncertain-placed : (plan : Lists) (d : ℕ) (u : Uncertain) → IsSound plan → slice_get plan.uncertains d ≡ Some u → IsPlacedItem (item.Uncertain d)
 uncertain-placed plan d u sound is = omega (arith, slice_get_within plan.uncertains d u is, sound.counts.uncertains)
 
-pub uncertain-among : (plan : Lists) (d : ℕ) (u : Uncertain) → IsSound plan → slice_get plan.uncertains d ≡ Some u → IsSoundUncertain 512 u
+pub uncertain-among : (plan : Lists) (d : ℕ) (u : Uncertain) → IsSound plan → slice_get plan.uncertains d ≡ Some u → IsSoundUncertain FIRST_OF_ENDS u
 uncertain-among plan d u sound is =
     let s : IsSoundUncertain (length plan.events) u = sound_uncertain plan d u sound is in
     record { name = s.name; end = s.end; start = omega (arith, s.start, sound.counts.events); least = s.least; ordered = s.ordered; most = s.most; lower_rate = s.lower_rate; upper_rate = s.upper_rate }
@@ -50,3 +58,16 @@ requirement-placed plan r sound member =
 
 pub requirement_in-placed : (plan : Lists) (slot : ℕ) (r : Requirement) → IsSound plan → requirement_in plan slot ≡ Some r → HasNodes r
 requirement_in-placed plan slot r sound found = requirement-placed plan r sound (Contains-found _ plan.requirements r found)
+
+-- and their rates are within their limits
+rate_in-limited : (price : Option Price) → IfSome price IsPrice → IfSome (option_map rate_in price) IsRate
+rate_in-limited None limited = tt
+rate_in-limited (Some price) limited = record { first = limited.rate; second = limited.second }
+
+pub loosening_rate-limited : (side : Side) (r : Requirement) → HasNodes r → IfSome (loosening_rate side r) IsRate
+loosening_rate-limited Lower r nodes = rate_in-limited r.lower.price nodes.lower.price
+loosening_rate-limited Upper r nodes = rate_in-limited r.upper.price nodes.upper.price
+
+pub rate_of-limited : (side : Side) (u : Uncertain) → IsSoundUncertain FIRST_OF_ENDS u → IfSome (rate_of side u) IsRate
+rate_of-limited Lower u sound = sound.lower_rate
+rate_of-limited Upper u sound = sound.upper_rate

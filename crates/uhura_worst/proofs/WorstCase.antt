@@ -13,19 +13,13 @@ use Rattle.uhura_plan.specs.declared.uncertain.Uncertain.{Uncertain}
 use Rattle.uhura_plan.specs.Lists.{Lists}
 use Rattle.uhura_plan.specs.Sound.{IsSound, IsSoundRequirement, IsEventAmong}
 use Rattle.uhura_net.specs.Edges.{Keeps}
-use Rattle.uhura_net.proofs.Scaled.{scaled_parts}
+use Rattle.uhura_net.proofs.Scaled.{scaled_parts, scaled-neg}
 use Rattle.uhura_worst.proofs.SoundItems.{sound_uncertain, sound_requirement}
-use Rattle.uhura_worst.specs.Proposal.{Proposal, loosened, narrowed, least_left, greatest_left, AreLeft, time_of, IsWithin, Meets}
+use Rattle.uhura_worst.specs.Proposal.{Proposal, loosened, narrowed, least_left, greatest_left, AreLeft, time_of, IsWithin, CoversAllDurations}
 use Rattle.uhura_worst.specs.declared.constraint.Constraint.{Constraint}
 use Rattle.uhura_worst.specs.Nodes.{least_end, greatest_end, least_node, greatest_node}
 use Rattle.uhura_worst.specs.Edges.{between, requirement_constraint, duration_constraint}
 use Rattle.uhura_worst.specs.WorstCase.{loosened_edge, MeetsWorstCase, HasTimesOf, AreExtremes, LeavesRanges, extreme_times}
-
--- a multiple of what has the other sign
-pub scaled-neg : (k : ℕ) (z : ℤ) → pos k *ℤ neg_ℤ z ≡ neg_ℤ (pos k *ℤ z)
-scaled-neg k (pos zero) = omega (arith, ints, scaled_parts k (pos 0))
-scaled-neg k (pos (suc n)) = omega (arith, ints, scaled_parts k (negsuc n))
-scaled-neg k (negsuc n) = omega (arith, ints, scaled_parts k (negsuc n))
 
 -- what holds of the value behind a map holds of the value
 pub IfSome-from_map : {A B : Type 0} (f : A → B) (P : B → Type 0) (Q : A → Type 0) (o : Option A) → ((x : A) → P (f x) → Q x) → IfSome (option_map f o) P → IfSome o Q
@@ -75,7 +69,7 @@ within_nodes plan k q times durations sound events meets left (End d) among =
     end-within_nodes plan k q times durations d found.0 sound events meets left found.1
 
 -- times that meet the worst case cover all durations
-pub covers : (plan : Lists) (k : ℕ) (q : Proposal) (times : ℕ → ℤ) → IsSound plan → HasTimesOf plan q times → MeetsWorstCase plan k q times → Meets plan k q
+pub covers : (plan : Lists) (k : ℕ) (q : Proposal) (times : ℕ → ℤ) → IsSound plan → HasTimesOf plan q times → MeetsWorstCase plan k q times → CoversAllDurations plan k q
 covers plan k q times sound events meets durations left r member active =
     let sound_r : IsSoundRequirement plan r = sound_requirement plan r sound member in
     let from : ℤ = time_of plan q durations r.from in
@@ -188,7 +182,7 @@ duration-kept plan k q times Upper d u sound extremes is =
     omega (arith, ints, extremes.events u.start (sound_uncertain plan d u sound is).start, extremes.greatest d u is, scaled-neg k u.upper)
 
 -- extreme times of a proposal that meets the requirements meet its worst case
-pub extremes-meet : (plan : Lists) (k : ℕ) (q : Proposal) (times : ℕ → ℤ) → IsSound plan → LeavesRanges plan k q → AreExtremes plan k q times → Meets plan k q → MeetsWorstCase plan k q times
+pub extremes-meet : (plan : Lists) (k : ℕ) (q : Proposal) (times : ℕ → ℤ) → IsSound plan → LeavesRanges plan k q → AreExtremes plan k q times → CoversAllDurations plan k q → MeetsWorstCase plan k q times
 extremes-meet plan k q times sound leaves extremes meets = record {
   requirements = λ side r member active. requirement-kept plan k q times side r leaves extremes (sound_requirement plan r sound member) (λ durations left. meets durations left r member active);
   durations = λ side d u is. duration-kept plan k q times side d u sound extremes is;

@@ -7,7 +7,7 @@ use Rattle.uhura_choice.specs.Branch.{IsBranch, holds}
 use Rattle.uhura_veto.specs.State.{State}
 use Rattle.uhura_veto.specs.Denial.{is_denied}
 use Rattle.uhura_veto.specs.Room.{requirement_room, duration_room, IsWithinRoom}
-use Rattle.uhura_worst.specs.Proposal.{Proposal, loosened, narrowed, least_left, greatest_left, Meets}
+use Rattle.uhura_worst.specs.Proposal.{Proposal, loosened, narrowed, least_left, greatest_left, CoversAllDurations}
 
 -- a proposal at scale k is allowed in a state
 pub record Allowed (state : State) (k : ℕ) (q : Proposal) : Type 0 where
@@ -21,10 +21,11 @@ pub record Allowed (state : State) (k : ℕ) (q : Proposal) : Type 0 where
       IsWithinRoom k (requirement_room state.vetoes side r) (loosened q side r)
   pub loosened_active : (side : Side) (r : Requirement) → Contains state.plan.requirements r →
       IsFalse (holds r.guard q.branch) → loosened q side r ≡ 0
-  pub narrowed_within : (side : Side) (d : ℕ) (u : Uncertain) → slice_get state.plan.uncertains d ≡ Some u →
+  pub narrowed_within : (side : Side) (d : ℕ) (u : Uncertain) →
+      slice_get state.plan.uncertains d ≡ Some u →
       IsWithinRoom k (duration_room state.vetoes d side u) (narrowed q side d)
   -- no range left is empty
   pub ranges_left : (d : ℕ) (u : Uncertain) → slice_get state.plan.uncertains d ≡ Some u →
       least_left k q d u ≤ℤ greatest_left k q d u
   -- the schedule meets the requirements whatever the durations
-  pub meets : Meets state.plan k q
+  pub covers : CoversAllDurations state.plan k q

@@ -1,5 +1,6 @@
 -- A proposal, and the times that it gives the events for some durations.
-use Rattle.std.specs.Prelude.{ℕ, ℤ, pos, ◌+ℤ◌, ◌-ℤ◌, ◌*ℤ◌, ◌≡◌, ◌≤ℤ◌, IsTrue, IfSome, List, Contains, slice_get, Some, unwrap_or, option_map}
+use Rattle.std.specs.Prelude.{ℕ, ℤ, pos, ◌+ℤ◌, ◌-ℤ◌, ◌*ℤ◌, ◌≡◌, ◌≤ℤ◌, IsTrue, IfSome}
+use Rattle.std.specs.Prelude.{List, Contains, slice_get, Some, unwrap_or, option_map}
 use Rattle.uhura_plan.specs.Lists.{Lists}
 use Rattle.uhura_plan.specs.declared.key.Side.{Side}
 use Rattle.uhura_plan.specs.declared.key.Side.TheVariants.{Lower, Upper}
@@ -38,22 +39,27 @@ greatest_left k q d u = (pos k *ℤ u.upper) -ℤ pos (narrowed q Upper d)
 
 -- the length that is given to each uncertain duration, by its place, lies within the range left
 abbrev pub AreLeft : Lists → ℕ → Proposal → (ℕ → ℤ) → Type 0
-AreLeft plan k q durations = (d : ℕ) (u : Uncertain) → slice_get plan.uncertains d ≡ Some u →
+AreLeft plan k q durations = (d : ℕ) (u : Uncertain) →
+    slice_get plan.uncertains d ≡ Some u →
     (least_left k q d u ≤ℤ durations d) × (durations d ≤ℤ greatest_left k q d u)
 
 -- the time of an event: its own where it is controllable, and the time of its start plus its duration where it
 -- is an end
 abbrev pub time_of : Lists → Proposal → (ℕ → ℤ) → EventRef → ℤ
 time_of plan q durations (Controllable e) = q.times e
-time_of plan q durations (End d) = unwrap_or (option_map (λ u. q.times u.start) (slice_get plan.uncertains d)) (pos 0) +ℤ durations d
+time_of plan q durations (End d) =
+    unwrap_or (option_map (λ u. q.times u.start) (slice_get plan.uncertains d)) (pos 0)
+    +ℤ durations d
 
 -- a difference of two times lies within the loosened bounds of a requirement, of which either may be missing
 pub record IsWithin (k : ℕ) (q : Proposal) (r : Requirement) (difference : ℤ) : Type 0 where
-  pub lower : IfSome r.lower.bound (λ least. ((pos k *ℤ least) -ℤ pos (loosened q Lower r)) ≤ℤ difference)
-  pub upper : IfSome r.upper.bound (λ most. difference ≤ℤ ((pos k *ℤ most) +ℤ pos (loosened q Upper r)))
+  pub lower : IfSome r.lower.bound
+      (λ least. ((pos k *ℤ least) -ℤ pos (loosened q Lower r)) ≤ℤ difference)
+  pub upper : IfSome r.upper.bound
+      (λ most. difference ≤ℤ ((pos k *ℤ most) +ℤ pos (loosened q Upper r)))
 
 -- whatever lengths within the ranges left the durations take, each requirement that is active in the branch is met
-abbrev pub Meets : Lists → ℕ → Proposal → Type 0
-Meets plan k q = (durations : ℕ → ℤ) → AreLeft plan k q durations →
+abbrev pub CoversAllDurations : Lists → ℕ → Proposal → Type 0
+CoversAllDurations plan k q = (durations : ℕ → ℤ) → AreLeft plan k q durations →
     (r : Requirement) → Contains plan.requirements r → IsTrue (holds r.guard q.branch) →
     IsWithin k q r (time_of plan q durations r.to -ℤ time_of plan q durations r.from)

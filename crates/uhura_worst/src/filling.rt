@@ -2,8 +2,9 @@
 ghost use Rattle.std.specs.Prelude.{◌≡◌, ℕ, ◌<◌, length, None, IfSome, slice_index_or};
 ghost use Rattle.uhura_plan.specs.declared.key.Item.TheVariants as item;
 ghost use Rattle.uhura_plan.specs.Sound.{IsSoundUncertain};
-ghost use Rattle.uhura_net.specs.Place.{place_number, HasPlace};
+ghost use Rattle.uhura_net.specs.Place.{IsPlacedItem, place_number, HasPlace};
 ghost use Rattle.uhura_net.specs.Table.{IsEdgeFor};
+ghost use Rattle.uhura_worst.specs.declared.node.TheConstants.{FIRST_OF_ENDS};
 ghost use Rattle.uhura_worst.specs.Nodes.{HasNodes};
 ghost use Rattle.uhura_worst.specs.Filled.{IsFilledBy, IsTableOf, first_items, Puts, PutsItem};
 
@@ -19,8 +20,8 @@ pub fn fill(table: &mut EdgeTable, plan: &Plan, vetoes: &Vetoes)
     fill_by(table, plan, vetoes);
 }
 
-/// Makes each place hold the edge that its key has in these tables. Besides one clearing of the table it takes time in
-/// the size of the plan alone.
+/// Makes each place hold the edge that its key has in these tables. Besides one clearing of the table it takes time
+/// in the size of the plan alone.
 pub fn fill_by<T: Tables>(table: &mut EdgeTable, plan: &Plan, tables: &T)
     ensures { IsFilledBy (T.tables tables.now) plan.now table.new }
 {
@@ -29,9 +30,9 @@ pub fn fill_by<T: Tables>(table: &mut EdgeTable, plan: &Plan, tables: &T)
     put_durations(table, plan, tables);
 }
 
-// Empties each place. Most are empty as a rule, and a look costs less than a write.
+/// Empties each place. Most are empty as a rule, and a look costs less than a write.
 fn clear(table: &mut EdgeTable)
-    ensures { (place : ℕ) → place < 9472 → slice_index_or table.new place None ≡ None }
+    ensures { (place : ℕ) → place < PLACES → slice_index_or table.new place None ≡ None }
 {
     for place in 0..PLACES as u32 {
         if table.get(Place(place)).is_some() {
@@ -40,19 +41,21 @@ fn clear(table: &mut EdgeTable)
     }
 }
 
-// Puts the edges of all requirements into an empty table.
+/// Puts the edges of all requirements into an empty table.
 fn put_requirements<T: Tables>(table: &mut EdgeTable, plan: &Plan, tables: &T)
-    requires { (place : ℕ) → place < 9472 → slice_index_or table.old place None ≡ None }
-    ensures { IsFilledBy (T.tables tables.now) (first_items plan.now (length plan.now.requirements) 0) table.new }
+    requires { (place : ℕ) → place < PLACES → slice_index_or table.old place None ≡ None }
+    ensures { let requirements = first_items plan.now (length plan.now.requirements) 0 in
+        IsFilledBy (T.tables tables.now) requirements table.new }
 {
     for position in 0..plan.requirements() {
         put_requirement(table, tables, plan.requirement(position).unwrap());
     }
 }
 
-// Puts the edges of all durations into a table of those of the requirements.
+/// Puts the edges of all durations into a table of those of the requirements.
 fn put_durations<T: Tables>(table: &mut EdgeTable, plan: &Plan, tables: &T)
-    requires { IsFilledBy (T.tables tables.now) (first_items plan.now (length plan.now.requirements) 0) table.old }
+    requires { let requirements = first_items plan.now (length plan.now.requirements) 0 in
+        IsFilledBy (T.tables tables.now) requirements table.old }
     ensures { IsFilledBy (T.tables tables.now) plan.now table.new }
 {
     for duration in 0..plan.uncertains() {
@@ -60,11 +63,12 @@ fn put_durations<T: Tables>(table: &mut EdgeTable, plan: &Plan, tables: &T)
     }
 }
 
-// Puts the edges of a requirement.
+/// Puts the edges of a requirement.
 fn put_requirement<T: Tables>(table: &mut EdgeTable, tables: &T, requirement: &Requirement)
-    requires slot { requirement.now.slot < 2048 }
+    requires slot { IsPlacedItem (item.Requirement requirement.now.slot) }
     requires nodes { HasNodes requirement.now }
-    ensures { PutsItem (item.Requirement requirement.now.slot) ((T.tables tables.now).of_requirement requirement.now) table.old table.new }
+    ensures { let edges = (T.tables tables.now).of_requirement requirement.now in
+        PutsItem (item.Requirement requirement.now.slot) edges table.old table.new }
 {
     let item = Item::Requirement(requirement.slot);
     let lower = SideKey {
@@ -77,11 +81,13 @@ fn put_requirement<T: Tables>(table: &mut EdgeTable, tables: &T, requirement: &R
     };
     put_requirement_edge(table, tables, requirement, EdgeKey::Loose(lower));
     put_requirement_edge(table, tables, requirement, EdgeKey::Firm(lower));
+    put_requirement_edge(table, tables, requirement, EdgeKey::Steep(lower));
     put_requirement_edge(table, tables, requirement, EdgeKey::Loose(upper));
     put_requirement_edge(table, tables, requirement, EdgeKey::Firm(upper));
+    put_requirement_edge(table, tables, requirement, EdgeKey::Steep(upper));
 }
 
-// Puts one of the edges of a requirement.
+/// Puts one of the edges of a requirement.
 fn put_requirement_edge<T: Tables>(
     table: &mut EdgeTable,
     tables: &T,
@@ -96,11 +102,12 @@ fn put_requirement_edge<T: Tables>(
     put(table, key, edge);
 }
 
-// Puts the edges of the duration in this place.
+/// Puts the edges of the duration in this place.
 fn put_duration<T: Tables>(table: &mut EdgeTable, tables: &T, duration: u32, uncertain: &Uncertain)
-    requires place { duration < 256 }
-    requires sound { IsSoundUncertain 512 uncertain.now }
-    ensures { PutsItem (item.Uncertain duration) ((T.tables tables.now).of_duration duration uncertain.now) table.old table.new }
+    requires place { IsPlacedItem (item.Uncertain duration) }
+    requires sound { IsSoundUncertain FIRST_OF_ENDS uncertain.now }
+    ensures { let edges = (T.tables tables.now).of_duration duration uncertain.now in
+        PutsItem (item.Uncertain duration) edges table.old table.new }
 {
     let item = Item::Uncertain(duration);
     let lower = SideKey {
@@ -113,12 +120,14 @@ fn put_duration<T: Tables>(table: &mut EdgeTable, tables: &T, duration: u32, unc
     };
     put_duration_edge(table, tables, duration, uncertain, EdgeKey::Loose(lower));
     put_duration_edge(table, tables, duration, uncertain, EdgeKey::Firm(lower));
+    put_duration_edge(table, tables, duration, uncertain, EdgeKey::Steep(lower));
     put_duration_edge(table, tables, duration, uncertain, EdgeKey::Loose(upper));
     put_duration_edge(table, tables, duration, uncertain, EdgeKey::Firm(upper));
+    put_duration_edge(table, tables, duration, uncertain, EdgeKey::Steep(upper));
     put_duration_edge(table, tables, duration, uncertain, EdgeKey::Order(duration));
 }
 
-// Puts one of the edges of the duration in this place.
+/// Puts one of the edges of the duration in this place.
 fn put_duration_edge<T: Tables>(
     table: &mut EdgeTable,
     tables: &T,
@@ -126,8 +135,8 @@ fn put_duration_edge<T: Tables>(
     uncertain: &Uncertain,
     key: EdgeKey,
 )
-    requires place { duration < 256 }
-    requires sound { IsSoundUncertain 512 uncertain.now }
+    requires place { IsPlacedItem (item.Uncertain duration) }
+    requires sound { IsSoundUncertain FIRST_OF_ENDS uncertain.now }
     requires placed { HasPlace key }
     ensures { Puts key ((T.tables tables.now).of_duration duration uncertain.now key) table.old table.new }
 {
@@ -135,7 +144,7 @@ fn put_duration_edge<T: Tables>(
     put(table, key, edge);
 }
 
-// Puts an edge, or none, at the place of its key.
+/// Puts an edge, or none, at the place of its key.
 fn put(table: &mut EdgeTable, key: EdgeKey, edge: Option<Edge>)
     requires placed { HasPlace key }
     requires fits { IfSome edge (IsEdgeFor (place_number key)) }

@@ -1,8 +1,9 @@
 //! What a proposal is, when it is allowed, what it costs, and which one is best: `specs/Proposal.antt` to
-//! `specs/Best.antt`, tried on worked plans in `examples`. The edges of the worst case stand in `specs/Edges.antt`, and
-//! `worst_case` says what they have to do with proposals.
+//! `specs/Best.antt`, tried on worked plans in `examples`; `best` says what best proposals have in common. The edges
+//! of the worst case stand in `specs/Edges.antt`, and `worst_case` says what they have to do with proposals.
 #![tactic(auto)]
 
+pub mod best;
 pub mod constraint;
 mod edges;
 pub mod examples;

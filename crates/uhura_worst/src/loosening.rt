@@ -1,11 +1,10 @@
 //! By how much sides are loosened or narrowed.
 ghost use Rattle.std.specs.Prelude.{◌≡◌, [], ◌∷◌, ◌++◌, ◌≤◌, is_ok, if◌then◌else◌};
-ghost use Rattle.uhura_veto.specs.Room.{is_same_key};
-ghost use Rattle.uhura_worst.specs.Units.{units_in, AreUnits, IsLoosening};
+ghost use Rattle.uhura_worst.specs.Units.{side_units, AreUnits, IsLoosening};
 
 use std::alloc::{AllocError, Global};
 use std::marker::Model;
-use uhura_plan::SideKey;
+use uhura_plan::{SideKey, is_same_key};
 
 /// Sides with their units above 0, each side at most once, in the order in which they were added.
 #[derive(Drop)]
@@ -37,7 +36,7 @@ impl Loosening {
 
     /// Adds a side that has no units yet.
     pub fn add(&mut self, key: SideKey, units: u64) -> Result<(), AllocError>
-        requires fresh { units_in self.old key ≡ 0 }
+        requires fresh { side_units self.old key ≡ 0 }
         requires units { AreUnits units }
         ensures { self.new ≡ (if is_ok result then self.old ++ (key, units) ∷ [] else self.old) }
     {
@@ -55,16 +54,16 @@ impl Loosening {
 
     /// The units of a side, 0 where none were added.
     pub fn units(&self, key: SideKey) -> u64
-        ensures units { result ≡ units_in self.now key }
+        ensures units { result ≡ side_units self.now key }
         ensures most { result ≤ 10_000_000_000_000 }
     {
         units_of(self.pairs.as_slice(), key)
     }
 }
 
-// The units that the pairs give a side.
+/// The units that the pairs give a side.
 fn units_of(pairs: &[(SideKey, u64)], key: SideKey) -> u64
-    ensures { result ≡ units_in pairs.now key }
+    ensures { result ≡ side_units pairs.now key }
 {
     for (side, units) in pairs {
         if is_same_key(*side, key) {
@@ -72,13 +71,6 @@ fn units_of(pairs: &[(SideKey, u64)], key: SideKey) -> u64
         }
     }
     0
-}
-
-// Whether two keys name one side.
-fn is_same_key(a: SideKey, b: SideKey) -> bool
-    ensures { result ≡ is_same_key a b }
-{
-    a == b
 }
 
 #[cfg(test)]

@@ -1,8 +1,10 @@
 //! Tables of edges that the table of all places is filled with.
 ghost use Rattle.std.specs.Prelude.{◌≡◌, ◌<◌, IfSome};
 ghost use Rattle.uhura_plan.specs.Sound.{IsSoundUncertain};
-ghost use Rattle.uhura_net.specs.Place.{place_number, HasPlace};
+ghost use Rattle.uhura_plan.specs.declared.key.Item.TheVariants as item;
+ghost use Rattle.uhura_net.specs.Place.{IsPlacedItem, place_number, HasPlace};
 ghost use Rattle.uhura_net.specs.Table.{IsEdgeFor};
+ghost use Rattle.uhura_worst.specs.declared.node.TheConstants.{FIRST_OF_ENDS};
 ghost use Rattle.uhura_worst.specs.Nodes.{HasNodes};
 ghost use Rattle.uhura_worst.specs.Edges.{Tables};
 
@@ -22,8 +24,8 @@ pub trait Tables {
 
     /// The edge of a key in the table of the duration in this place.
     fn duration_edge(&self, duration: u32, uncertain: &Uncertain, key: EdgeKey) -> Option<Edge>
-        requires place { duration < 256 }
-        requires sound { IsSoundUncertain 512 uncertain.now }
+        requires place { IsPlacedItem (item.Uncertain duration) }
+        requires sound { IsSoundUncertain FIRST_OF_ENDS uncertain.now }
         ensures edge { result ≡ (tables self.now).of_duration duration uncertain.now key }
         ensures fits { HasPlace key → IfSome result (IsEdgeFor (place_number key)) };
 }

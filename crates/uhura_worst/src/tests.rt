@@ -5,9 +5,8 @@ ghost use Rattle.uhura_net.specs.Place.{HasPlace};
 use crate::{edge, fill};
 use std::alloc::Global;
 use std::process::Abort;
-use std::test::Fail;
 use uhura_net::{Edge, EdgeTable, place_of};
-use uhura_plan::{Bounded, EdgeKey, EditRefusal, Item, Name, Plan, Price, Side, SideKey};
+use uhura_plan::{Bounded, EdgeKey, Item, Name, Plan, Price, Rate, Second, Side, SideKey};
 use uhura_veto::rooms::room;
 use uhura_veto::{Room, Vetoes};
 
@@ -15,30 +14,40 @@ fn name(rt: &impl Abort, text: &str) -> Name {
     Name::read(text.as_bytes()).expect(rt, "a name")
 }
 
-// At most 15, or up to 7 more at 2 each.
+/// At most 15, or up to 4 more at 2 each and 3 more at 5 each.
 fn at_most() -> Bounded
     ensures { AreWithinLimits result }
 {
-    let (rate, most) = (2, Some(7));
+    let second = Second { after: 4, rate: 5 };
     Bounded {
         bound: Some(15),
-        price: Some(Price { rate, most }),
+        price: Some(Price {
+            rate: 2,
+            second: Some(second),
+            most: Some(7),
+        }),
     }
 }
 
-// A duration of 10 to 20 that may be cut, and a requirement on its end.
-fn small_plan(rt: &impl Abort, alloc: Global) -> Result<Plan, EditRefusal> {
-    let mut plan = Plan::new(alloc)?;
+/// A duration of 10 to 20 that may be cut, and a requirement on its end.
+fn small_plan(rt: &impl Abort, alloc: Global) -> Plan {
+    let mut plan = Plan::new(alloc).expect(rt, "memory");
     let (s, e) = (name(rt, "s"), name(rt, "e"));
-    plan.add_event(s)?;
-    plan.add_uncertain(name(rt, "d"), s, e, 10, 20, None, Some(3))?;
+    plan.add_event(s).expect(rt, "an event");
+    let rate = Rate {
+        first: 3,
+        second: None,
+    };
+    let added = plan.add_uncertain(name(rt, "d"), s, e, 10, 20, None, Some(rate));
+    added.expect(rt, "a duration");
     let (bound, price) = (None, None);
     let none = Bounded { bound, price };
-    plan.add_requirement(name(rt, "r"), s, e, none, at_most(), &[])?;
-    Ok(plan)
+    let added = plan.add_requirement(name(rt, "r"), s, e, none, at_most(), &[]);
+    added.expect(rt, "a requirement");
+    plan
 }
 
-// The edge of the key, and what the table holds at its place.
+/// What a key has in the plan, and what the table has at its place.
 fn both(plan: &Plan, vetoes: &Vetoes, table: &EdgeTable, key: EdgeKey) -> [Option<Edge>; 2]
     requires { HasPlace key }
 {
@@ -46,46 +55,39 @@ fn both(plan: &Plan, vetoes: &Vetoes, table: &EdgeTable, key: EdgeKey) -> [Optio
 }
 
 #[test]
-fn gives_the_rooms_of_sides(rt: HostRuntime) -> Result<(), Fail> {
-    let plan = small_plan(&rt, rt.alloc())?;
-    let vetoes = Vetoes::new(rt.alloc())?;
-    assert_eq!(rt; vetoes.count(), 0);
-    let (d, r) = (Item::Uncertain(0), Item::Requirement(0));
-    for (item, side, units) in [
-        (d, Side::Lower, 0),
-        (d, Side::Upper, 10),
-        (r, Side::Lower, 0),
-        (r, Side::Upper, 7),
-    ] {
-        let key = SideKey { item, side };
-        assert_eq!(rt; room(&plan, &vetoes, key), Room::Units(units));
-    }
-    Ok(())
-}
-
-#[test]
-fn fills_a_table_with_edges(rt: HostRuntime) -> Result<(), Fail> {
-    let plan = small_plan(&rt, rt.alloc())?;
-    let vetoes = Vetoes::new(rt.alloc())?;
-    let mut table = EdgeTable::new(rt.alloc())?;
+fn gives_rooms_and_edges(rt: HostRuntime) {
+    let plan = small_plan(&rt, rt.alloc());
+    let vetoes = Vetoes::new(rt.alloc()).expect(&rt, "memory");
+    let mut table = EdgeTable::new(rt.alloc()).expect(&rt, "memory");
     fill(&mut table, &plan, &vetoes);
     let side = Side::Upper;
-    let (d, r) = (Item::Uncertain(0), Item::Requirement(0));
-    let cut = EdgeKey::Loose(SideKey { item: d, side });
+    let cut = SideKey {
+        item: Item::Uncertain(0),
+        side,
+    };
+    assert_eq!(rt; room(&plan, &vetoes, cut), Room::Units(10));
     let stated = Edge {
         from: 513,
         to: 0,
         bound: -20,
         capacity: 3,
     };
-    assert_eq!(rt; both(&plan, &vetoes, &table, cut), [Some(stated); 2]);
-    let later = EdgeKey::Firm(SideKey { item: r, side });
-    let moved = Edge {
+    assert_eq!(rt;
+        both(&plan, &vetoes, &table, EdgeKey::Loose(cut)),
+        [Some(stated); 2]
+    );
+    let later = SideKey {
+        item: Item::Requirement(0),
+        side,
+    };
+    let past = Edge {
         from: 0,
         to: 513,
-        bound: 22,
-        capacity: 10_000_000_000,
+        bound: 19,
+        capacity: 3,
     };
-    assert_eq!(rt; both(&plan, &vetoes, &table, later), [Some(moved); 2]);
-    Ok(())
+    assert_eq!(rt;
+        both(&plan, &vetoes, &table, EdgeKey::Steep(later)),
+        [Some(past); 2]
+    );
 }

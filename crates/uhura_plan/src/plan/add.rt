@@ -5,7 +5,7 @@ ghost use Rattle.uhura_plan.specs.Edits.{with_event, AddsUncertain, AddsChoice, 
 ghost use Rattle.uhura_plan.specs.Refusals.{Answers, event_refusal, uncertain_refusal, choice_refusal, requirement_refusal};
 
 use super::Plan;
-use crate::{Alternatives, Bounded, Choice, EditRefusal, Name, Uncertain};
+use crate::{Alternatives, Bounded, Choice, EditRefusal, Name, Rate, Uncertain};
 
 impl Plan {
     /// Appends a controllable event.
@@ -27,7 +27,7 @@ impl Plan {
     }
 
     /// Appends a duration from the controllable event `start` to its own end, an event of the name
-    /// `end`: from `lower` to `upper` units long. A side with a rate may be narrowed at that price a unit.
+    /// `end`: from `lower` to `upper` units long. A side with a rate may be narrowed at that price.
     pub fn add_uncertain(
         &mut self,
         name: Name,
@@ -35,8 +35,8 @@ impl Plan {
         end: Name,
         lower: i64,
         upper: i64,
-        lower_rate: Option<u32>,
-        upper_rate: Option<u32>,
+        lower_rate: Option<Rate>,
+        upper_rate: Option<Rate>,
     ) -> Result<(), EditRefusal>
         requires lower { IsRangeEnd lower }
         requires upper { IsRangeEnd upper }

@@ -6,7 +6,7 @@ ghost use Rattle.uhura_plan.specs.Refusals.{AnswersAlways, no_requirement, no_un
 
 use super::Plan;
 use super::refuse::empty_between;
-use crate::{EditRefusal, Name, Price, Side};
+use crate::{EditRefusal, Name, Price, Rate, Side};
 
 impl Plan {
     /// Takes a requirement out. Those behind it close up, and keep their slots.
@@ -64,7 +64,12 @@ impl Plan {
     }
 
     /// Puts a rate on a side of a duration, or takes it away.
-    pub fn set_rate(&mut self, name: Name, side: Side, rate: Option<u32>) -> Result<(), EditRefusal>
+    pub fn set_rate(
+        &mut self,
+        name: Name,
+        side: Side,
+        rate: Option<Rate>,
+    ) -> Result<(), EditRefusal>
         requires { IfSome rate IsRate }
         ensures answer { AnswersAlways (no_uncertain self.old name) result }
         ensures ok { OnOk result (self.new ≡ change_uncertain (with_rate side rate) name self.old) }

@@ -4,7 +4,7 @@ ghost use Rattle.uhura_plan.specs.Limits.{AreWithinLimits};
 mod added;
 
 use super::*;
-use crate::{Bounded, EditRefusal, Price, Side};
+use crate::{Bounded, EditRefusal, Price, Second, Side};
 use std::process::Abort;
 use std::test::Fail;
 
@@ -90,9 +90,10 @@ fn changed_upper() -> Bounded
     ensures { AreWithinLimits result }
 {
     let (rate, most) = (3, Some(4));
+    let second = Some(Second { after: 2, rate: 5 });
     Bounded {
         bound: Some(9),
-        price: Some(Price { rate, most }),
+        price: Some(Price { rate, second, most }),
     }
 }
 

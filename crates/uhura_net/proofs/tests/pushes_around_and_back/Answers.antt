@@ -1,4 +1,5 @@
-use Rattle.std.proofs.Common.{◌≡◌, ℕ, true, false, refl, ap, ◌∙◌, inl, arith, pos, negsuc}
+use Rattle.std.proofs.Common.{true, false, refl, ap, ◌∙◌, inl, arith, pos, negsuc}
+use Rattle.uhura_net.specs.declared.edge.TheConstants.{FIRM_CAPACITY}
 use Rattle.uhura_net.specs.declared.edge.Edge.{Edge}
 use Rattle.uhura_net.specs.Circulation.{edges_of, units_of}
 use Rattle.uhura_net.proofs.Loops.{two_around}
@@ -8,7 +9,7 @@ there : Edge
 there = record { from = 0; to = 1023; bound = negsuc 6; capacity = 4 }
 
 back : Edge
-back = record { from = 1023; to = 0; bound = pos 2; capacity = 10000000000 }
+back = record { from = 1023; to = 0; bound = pos 2; capacity = FIRM_CAPACITY }
 
 pub push-requires : goal.push-requires
 unfolding there back

@@ -1,13 +1,24 @@
 //! A duration and two choices, as they were stated.
+ghost use Rattle.uhura_plan.specs.Limits.{IsRate};
+
 use super::{event, name};
 use crate::plan::Plan;
-use crate::{Choice, EditRefusal, EventRef, Literal, Name, Uncertain};
+use crate::{Choice, EditRefusal, EventRef, Literal, Name, Rate, Second, Uncertain};
 use std::process::Abort;
 use std::test::Fail;
 
+fn upper_rate() -> Rate
+    ensures { IsRate result }
+{
+    Rate {
+        first: 3,
+        second: Some(Second { after: 1, rate: 4 }),
+    }
+}
+
 fn duration(rt: &impl Abort, plan: &mut Plan) -> Result<(), EditRefusal> {
     let (own, start, end) = (name(rt, "d"), name(rt, "a"), name(rt, "e"));
-    plan.add_uncertain(own, start, end, 2, 5, None, Some(3))
+    plan.add_uncertain(own, start, end, 2, 5, None, Some(upper_rate()))
 }
 
 // A choice of this name between `x` and `y`, where `x` is picked of the choice `when`.
@@ -29,7 +40,7 @@ fn choice(
 }
 
 // The names, the place of the start, the range and the rates of a duration.
-fn parts(d: &Uncertain) -> ([Name; 2], u32, [i64; 2], [Option<u32>; 2]) {
+fn parts(d: &Uncertain) -> ([Name; 2], u32, [i64; 2], [Option<Rate>; 2]) {
     let rates = [d.lower_rate, d.upper_rate];
     ([d.name, d.end], d.start, [d.lower, d.upper], rates)
 }
@@ -42,7 +53,7 @@ fn keeps_a_duration(rt: HostRuntime) -> Result<(), Fail> {
     let (own, end) = (name(&rt, "d"), name(&rt, "e"));
     assert_eq!(rt; plan.find_event(end), Some(EventRef::End(0)));
     let found = plan.uncertain(0).expect(&rt, "the duration");
-    let stated = ([own, end], 0, [2, 5], [None, Some(3)]);
+    let stated = ([own, end], 0, [2, 5], [None, Some(upper_rate())]);
     assert!(rt; parts(found) == stated);
     Ok(())
 }

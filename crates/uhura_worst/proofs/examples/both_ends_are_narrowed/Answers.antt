@@ -28,7 +28,7 @@ five-allowed =
           (elim side as (λ side. IsWithinRoom 1 (duration_room [] 1 side stretch) (narrowed q side 1)) [ Lower ↦ lit≤ tt | Upper ↦ lit≤ tt ]);
       ranges_left = λ d u is.
           at_pair (λ d u. least_left 1 q d u ≤ℤ greatest_left 1 q d u) long stretch u d is (search rules) (search rules);
-      meets = λ durations left r member active.
+      covers = λ durations left r member active.
           for_single (λ r. IsWithin 1 q r (time_of pinned.plan q durations r.to -ℤ time_of pinned.plan q durations r.from)) exact r member
           (let taken = left 1 stretch refl in
           record { lower = omega (arith, ints, taken.0); upper = omega (arith, ints, taken.1) });
@@ -48,8 +48,8 @@ returns-clause-best c = record {
         let some = allowed.ranges_left 1 stretch refl in
         let left : (second : ℤ) → least_left k q 1 stretch ≤ℤ second → second ≤ℤ greatest_left k q 1 stretch → AreLeft pinned.plan k q (lengths (least_left k q 0 long) second) = λ second above below place u is.
         at_pair (λ place u. (least_left k q place u ≤ℤ lengths (least_left k q 0 long) second place) × (lengths (least_left k q 0 long) second place ≤ℤ greatest_left k q place u)) long stretch u place is (omega (arith, ints), other) (above, below) in
-        let short = allowed.meets (lengths (least_left k q 0 long) (least_left k q 1 stretch)) (left (least_left k q 1 stretch) (omega (arith, ints)) some) exact (0, lit< tt, refl) (search rules) in
-        let far = allowed.meets (lengths (least_left k q 0 long) (greatest_left k q 1 stretch)) (left (greatest_left k q 1 stretch) some (omega (arith, ints))) exact (0, lit< tt, refl) (search rules) in
+        let short = allowed.covers (lengths (least_left k q 0 long) (least_left k q 1 stretch)) (left (least_left k q 1 stretch) (omega (arith, ints)) some) exact (0, lit< tt, refl) (search rules) in
+        let far = allowed.covers (lengths (least_left k q 0 long) (greatest_left k q 1 stretch)) (left (greatest_left k q 1 stretch) some (omega (arith, ints))) exact (0, lit< tt, refl) (search rules) in
         omega (arith, ints, short.lower, far.upper, allowed.loosened_within Lower exact (0, lit< tt, refl), allowed.loosened_within Upper exact (0, lit< tt, refl));
   };
   first = λ k q allowed same. search rules;

@@ -16,7 +16,7 @@ returns-clause-best c = record {
         let longest : ℤ = greatest_left k q 0 drive in
         let left : AreLeft capped_drive.plan k q (λ d. longest) = λ d u is.
         at_single (λ d u. (least_left k q d u ≤ℤ longest) × (longest ≤ℤ greatest_left k q d u)) drive u d is (allowed.ranges_left 0 drive refl, omega (arith, ints)) in
-        let met = allowed.meets (λ d. longest) left dinner (0, lit< tt, refl) (search rules) in
+        let met = allowed.covers (λ d. longest) left dinner (0, lit< tt, refl) (search rules) in
         omega (arith, ints, met.upper, allowed.loosened_within Upper dinner (0, lit< tt, refl));
   };
   first = λ k q allowed same. search rules;

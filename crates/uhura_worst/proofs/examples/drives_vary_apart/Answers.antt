@@ -29,7 +29,7 @@ gap-allowed k lower upper scale low high =
           (elim side as (λ side. IsWithinRoom k (duration_room [] 1 side long) (narrowed q side 1)) [ Lower ↦ omega (arith) | Upper ↦ omega (arith) ]);
       ranges_left = λ d u is.
           at_pair (λ d u. least_left k q d u ≤ℤ greatest_left k q d u) short long u d is (omega (arith, ints)) (omega (arith, ints));
-      meets = λ durations left r member active.
+      covers = λ durations left r member active.
           for_single (λ r. IsWithin k q r (time_of two_drives.plan q durations r.to -ℤ time_of two_drives.plan q durations r.from)) gap r member
           (let first = left 0 short refl in let second = left 1 long refl in
           record { lower = omega (arith, ints, first.1, second.0, low); upper = omega (arith, ints, first.0, second.1, high) });
@@ -55,8 +55,8 @@ returns-clause-best c = record {
     least = λ k q allowed.
         let some = allowed.ranges_left 0 short refl in
         let more = allowed.ranges_left 1 long refl in
-        let apart = allowed.meets (lengths (least_left k q 0 short) (greatest_left k q 1 long)) (are-left k q (least_left k q 0 short) (greatest_left k q 1 long) (omega (arith, ints)) some more (omega (arith, ints))) gap (0, lit< tt, refl) (search rules) in
-        let close = allowed.meets (lengths (greatest_left k q 0 short) (least_left k q 1 long)) (are-left k q (greatest_left k q 0 short) (least_left k q 1 long) some (omega (arith, ints)) (omega (arith, ints)) more) gap (0, lit< tt, refl) (search rules) in
+        let apart = allowed.covers (lengths (least_left k q 0 short) (greatest_left k q 1 long)) (are-left k q (least_left k q 0 short) (greatest_left k q 1 long) (omega (arith, ints)) some more (omega (arith, ints))) gap (0, lit< tt, refl) (search rules) in
+        let close = allowed.covers (lengths (greatest_left k q 0 short) (least_left k q 1 long)) (are-left k q (greatest_left k q 0 short) (least_left k q 1 long) some (omega (arith, ints)) (omega (arith, ints)) more) gap (0, lit< tt, refl) (search rules) in
         omega (arith, ints, apart.upper, close.lower, allowed.narrowed_within Lower 0 short refl, allowed.narrowed_within Upper 0 short refl, allowed.narrowed_within Lower 1 long refl, allowed.narrowed_within Upper 1 long refl);
   };
   first = λ k q allowed same. search rules;
@@ -66,5 +66,5 @@ returns-clause-best c = record {
 pub returns-clause-too_little : goal.returns-clause-too_little
 returns-clause-too_little c = λ allowed.
     let left = are-left 1 (gap_by 5 4) (pos 10) (pos 50) (search rules) (search rules) (search rules) (search rules) in
-    let met = allowed.meets (lengths (pos 10) (pos 50)) left gap (0, lit< tt, refl) (search rules) in
+    let met = allowed.covers (lengths (pos 10) (pos 50)) left gap (0, lit< tt, refl) (search rules) in
     omega (arith, ints, met.upper)

@@ -27,7 +27,7 @@ returns-clause-allowed c =
           (elim side as (λ side. IsWithinRoom 1 (duration_room [] 0 side plain_drive) (narrowed q side 0)) [ Lower ↦ lit≤ tt | Upper ↦ lit≤ tt ]);
       ranges_left = λ d u is.
           at_single (λ d u. least_left 1 q d u ≤ℤ greatest_left 1 q d u) plain_drive u d is (search rules);
-      meets = λ durations left r member active.
+      covers = λ durations left r member active.
           for_pair (λ r. IsWithin 1 q r (time_of (drive_to_film 50).plan q durations r.to -ℤ time_of (drive_to_film 50).plan q durations r.from)) in_time (film_within 50) r member
           (let within = left 0 plain_drive refl in record { lower = omega (arith, ints, within.1); upper = tt })
           (record { lower = tt; upper = search rules });
@@ -39,6 +39,6 @@ returns-clause-nothing c = λ q allowed.
     let not_longer = allowed.narrowed_within Lower 0 plain_drive refl in
     let left : AreLeft (drive_to_film 49).plan 1 q (λ d. pos 50) = λ d u is.
     at_single (λ d u. (least_left 1 q d u ≤ℤ pos 50) × (pos 50 ≤ℤ greatest_left 1 q d u)) plain_drive u d is (omega (arith, ints, not_longer), omega (arith, ints, not_shorter)) in
-    let waits = allowed.meets (λ d. pos 50) left in_time (0, lit< tt, refl) (search rules) in
-    let starts = allowed.meets (λ d. pos 50) left (film_within 49) (1, lit< tt, refl) (search rules) in
+    let waits = allowed.covers (λ d. pos 50) left in_time (0, lit< tt, refl) (search rules) in
+    let starts = allowed.covers (λ d. pos 50) left (film_within 49) (1, lit< tt, refl) (search rules) in
     omega (arith, ints, waits.lower, starts.upper, allowed.loosened_within Lower in_time (0, lit< tt, refl), allowed.loosened_within Upper (film_within 49) (1, lit< tt, refl))

@@ -27,7 +27,7 @@ returns-clause-allowed c =
           (elim side as (λ side. IsWithinRoom 1 (duration_room [] 1 side long) (narrowed q side 1)) [ Lower ↦ lit≤ tt | Upper ↦ lit≤ tt ]);
       ranges_left = λ d u is.
           at_pair (λ d u. least_left 1 q d u ≤ℤ greatest_left 1 q d u) short long u d is (search rules) (search rules);
-      meets = λ durations left r member active.
+      covers = λ durations left r member active.
           for_single (λ r. IsWithin 1 q r (time_of (drives_apart 40).plan q durations r.to -ℤ time_of (drives_apart 40).plan q durations r.from)) (apart 40) r member
           (let first = left 0 short refl in let second = left 1 long refl in
           record { lower = omega (arith, ints, first.1, second.0); upper = omega (arith, ints, first.0, second.1) });
@@ -44,5 +44,5 @@ returns-clause-nothing c = λ q allowed.
     let more = allowed.ranges_left 1 long refl in
     let left : AreLeft (drives_apart 39).plan 1 q (lengths (least_left 1 q 0 short) (greatest_left 1 q 1 long)) = λ place u is.
     at_pair (λ place u. (least_left 1 q place u ≤ℤ lengths (least_left 1 q 0 short) (greatest_left 1 q 1 long) place) × (lengths (least_left 1 q 0 short) (greatest_left 1 q 1 long) place ≤ℤ greatest_left 1 q place u)) short long u place is (omega (arith, ints), some) (more, omega (arith, ints)) in
-    let met = allowed.meets (lengths (least_left 1 q 0 short) (greatest_left 1 q 1 long)) left (apart 39) (0, lit< tt, refl) (search rules) in
+    let met = allowed.covers (lengths (least_left 1 q 0 short) (greatest_left 1 q 1 long)) left (apart 39) (0, lit< tt, refl) (search rules) in
     omega (arith, ints, met.upper, allowed.loosened_within Upper (apart 39) (0, lit< tt, refl), allowed.narrowed_within Lower 0 short refl, allowed.narrowed_within Upper 1 long refl)

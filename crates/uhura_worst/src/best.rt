@@ -1,0 +1,16 @@
+//! What two best proposals have in common. Each contract is a law over the definitions, and the bodies are empty.
+ghost use Rattle.std.specs.Prelude.{◌≡◌, ℕ, ◌<◌, length};
+ghost use Rattle.uhura_veto.specs.State.{State};
+ghost use Rattle.uhura_worst.specs.Proposal.{Proposal};
+ghost use Rattle.uhura_worst.specs.Cost.{cost};
+ghost use Rattle.uhura_worst.specs.Best.{IsBest};
+
+/// Two best proposals for one state cost the same and have one branch, and where they have the same units, they have
+/// the same times.
+pub fn best_is_settled()
+    ensures same_cost { (state : State) (p q : Proposal) → IsBest state p → IsBest state q →
+        cost state.plan 1 p ≡ cost state.plan 1 q }
+    ensures same_branch { (state : State) (p q : Proposal) → IsBest state p → IsBest state q → p.branch ≡ q.branch }
+    ensures same_times { (state : State) (p q : Proposal) → IsBest state p → IsBest state q → p.units ≡ q.units →
+        (e : ℕ) → e < length state.plan.events → p.times e ≡ q.times e }
+{}
