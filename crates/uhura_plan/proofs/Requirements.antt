@@ -30,7 +30,7 @@ ordered_along lower upper lower' upper' same also ordered =
     subst (λ l. AreOrdered l.bound upper'.bound) (sym same) (subst (λ u. AreOrdered lower.bound u.bound) (sym also) ordered)
 
 module _ (plan : Lists) (name from to : List ℕ) (lower upper : Bounded) (guard : List (List ℕ × List ℕ)) (made : Requirement) (sound : IsSound plan)
-    (none : requirement_refusal plan name from to lower upper guard ≡ None) (stated : IsRequirementOf plan name from to lower upper guard made) where
+    (none : requirement_refusal plan name from to lower upper guard ≡ None) (stated : IsRequirementOf plan (record { name = name; from = from; to = to; lower = lower; upper = upper; guard = guard }) made) where
   -- the names and the slots stay distinct
   HasDistinctNames-with_requirement : HasDistinctNames (with_requirement plan made)
   HasDistinctNames-with_requirement =
@@ -111,7 +111,7 @@ module _ (plan : Lists) (name from to : List ℕ) (lower upper : Bounded) (guard
 module _ (events : List (List ℕ)) (uncertains : List (List ℕ × Uncertain)) (choices : List (List ℕ × Choice)) (entries : List (List ℕ × Requirement)) (plan : Lists) (inserted : List (List ℕ × Requirement))
     (name from to : List ℕ) (lower upper : Bounded) (guard : List (List ℕ × List ℕ)) (made : Requirement) (ends : List (List ℕ))
     (view : lists_of events uncertains choices entries ≡ plan) (held : HoldsPlan events ends uncertains choices entries) (is : inserted ≡ insert_entry bytes_eq entries name made)
-    (none : requirement_refusal plan name from to lower upper guard ≡ None) (stated : IsRequirementOf plan name from to lower upper guard made) where
+    (none : requirement_refusal plan name from to lower upper guard ≡ None) (stated : IsRequirementOf plan (record { name = name; from = from; to = to; lower = lower; upper = upper; guard = guard }) made) where
   -- the name is no requirement's in the tables
   free : is_some (place_of (requirement_names (values_of entries)) name) ≡ false
   free = ap (λ p. is_some (requirement_named p name)) view ∙ (unrefused_requirement plan name from to lower upper guard none).name_free

@@ -14,43 +14,91 @@ use Rattle.uhura_plan.specs.Find.{find_event, literal_named}
 abbrev pub with_event : Lists → List ℕ → Lists
 with_event plan name = record plan { events = plan.events ++ name ∷ [] }
 
+-- what a call states of a duration: its name, the names of its events, its range and its rates
+pub record StatedUncertain : Type 0 where
+  pub name : List ℕ
+  pub start : List ℕ
+  pub end : List ℕ
+  pub lower : ℤ
+  pub upper : ℤ
+  pub lower_rate : Option Rate
+  pub upper_rate : Option Rate
+
+-- the duration that a call states, from the controllable event at this place
+abbrev pub uncertain_from : ℕ → StatedUncertain → Uncertain
+uncertain_from place stated = record {
+  name = stated.name;
+  start = place;
+  end = stated.end;
+  lower = stated.lower;
+  upper = stated.upper;
+  lower_rate = stated.lower_rate;
+  upper_rate = stated.upper_rate;
+}
+
 -- the plan with this duration behind its others
 abbrev pub with_uncertain : Lists → Uncertain → Lists
 with_uncertain plan made = record plan { uncertains = plan.uncertains ++ made ∷ [] }
 
 -- the new plan is the old one with the duration that the call states, from the place of its start
-pub record AddsUncertain (old new : Lists) (name start end : List ℕ) (lower upper : ℤ) (lower_rate upper_rate : Option Rate) : Type 0 where
+pub record AddsUncertain (old new : Lists) (stated : StatedUncertain) : Type 0 where
   pub from : ℕ
-  pub found : find_event old start ≡ Some (Controllable from)
-  pub lists : new ≡ with_uncertain old (record { name = name; start = from; end = end; lower = lower; upper = upper; lower_rate = lower_rate; upper_rate = upper_rate })
+  pub found : find_event old stated.start ≡ Some (Controllable from)
+  pub lists : new ≡ with_uncertain old (uncertain_from from stated)
 
 -- the literals are those of the names, in their order
 abbrev pub AreLiteralsOf : Lists → List (List ℕ × List ℕ) → List Literal → Type 0
-AreLiteralsOf plan names literals = map (λ literal. Some literal) literals ≡ map (literal_named plan) names
+AreLiteralsOf plan names literals =
+    map (λ literal. Some literal) literals ≡ map (literal_named plan) names
+
+-- what a call states of a choice: its name, its alternatives and the names of its guard's literals
+pub record StatedChoice : Type 0 where
+  pub name : List ℕ
+  pub alternatives : List (List ℕ × ℕ)
+  pub guard : List (List ℕ × List ℕ)
+
+-- the choice that a call states, under these literals
+abbrev pub choice_under : List Literal → StatedChoice → Choice
+choice_under literals stated = record {
+  name = stated.name;
+  alternatives = stated.alternatives;
+  guard = literals;
+}
 
 -- the plan with this choice behind its others
 abbrev pub with_choice : Lists → Choice → Lists
 with_choice plan made = record plan { choices = plan.choices ++ made ∷ [] }
 
 -- the new plan is the old one with the choice that the call states
-pub record AddsChoice (old new : Lists) (name : List ℕ) (alternatives : List (List ℕ × ℕ)) (guard : List (List ℕ × List ℕ)) : Type 0 where
+pub record AddsChoice (old new : Lists) (stated : StatedChoice) : Type 0 where
   pub literals : List Literal
-  pub found : AreLiteralsOf old guard literals
-  pub lists : new ≡ with_choice old (record { name = name; alternatives = alternatives; guard = literals })
+  pub found : AreLiteralsOf old stated.guard literals
+  pub lists : new ≡ with_choice old (choice_under literals stated)
 
 -- no requirement has the slot, and each lower slot is some requirement's
 pub record IsLeastFree (requirements : List Requirement) (slot : ℕ) : Type 0 where
   pub free : Contains (slots requirements) slot → ⊥
   pub least : (lower : ℕ) → lower < slot → Contains (slots requirements) lower
 
--- what a call states, with the events and literals of its names, in the least free slot
-pub record IsRequirementOf (plan : Lists) (name from to : List ℕ) (lower upper : Bounded) (guard : List (List ℕ × List ℕ)) (made : Requirement) : Type 0 where
-  pub same_name : made.name ≡ name
-  pub found_from : Some made.from ≡ find_event plan from
-  pub found_to : Some made.to ≡ find_event plan to
-  pub same_lower : made.lower ≡ lower
-  pub same_upper : made.upper ≡ upper
-  pub found_guard : AreLiteralsOf plan guard made.guard
+-- what a call states of a requirement: its name, those of its events, what its sides have, and the
+-- names of its guard's literals
+pub record StatedRequirement : Type 0 where
+  pub name : List ℕ
+  pub from : List ℕ
+  pub to : List ℕ
+  pub lower : Bounded
+  pub upper : Bounded
+  pub guard : List (List ℕ × List ℕ)
+
+-- the requirement is the stated one, with the events and literals of its names, in the least free slot
+pub record IsRequirementOf (plan : Lists) (stated : StatedRequirement)
+    (made : Requirement) : Type 0 where
+  pub same_name : made.name ≡ stated.name
+  pub found_from : Some made.from ≡ find_event plan stated.from
+  pub found_to : Some made.to ≡ find_event plan stated.to
+  pub same_lower : made.lower ≡ stated.lower
+  pub same_upper : made.upper ≡ stated.upper
+  pub found_guard : AreLiteralsOf plan stated.guard made.guard
   pub least_slot : IsLeastFree plan.requirements made.slot
 
 -- the plan with this requirement behind its others
@@ -58,7 +106,7 @@ abbrev pub with_requirement : Lists → Requirement → Lists
 with_requirement plan made = record plan { requirements = plan.requirements ++ made ∷ [] }
 
 -- the new plan is the old one with the requirement that the call states
-pub record AddsRequirement (old new : Lists) (name from to : List ℕ) (lower upper : Bounded) (guard : List (List ℕ × List ℕ)) : Type 0 where
+pub record AddsRequirement (old new : Lists) (stated : StatedRequirement) : Type 0 where
   pub made : Requirement
-  pub stated : IsRequirementOf old name from to lower upper guard made
+  pub found : IsRequirementOf old stated made
   pub lists : new ≡ with_requirement old made

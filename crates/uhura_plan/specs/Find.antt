@@ -13,7 +13,10 @@ place_of names name = position (bytes_eq name) names
 
 -- the event of this name: a controllable one, or else the end of a duration
 abbrev pub find_event : Lists → List ℕ → Option EventRef
-find_event plan name = option_or (option_map (λ e. Controllable e) (place_of plan.events name)) (option_map (λ d. End d) (place_of (end_names plan.uncertains) name))
+find_event plan name =
+    option_or
+    (option_map (λ e. Controllable e) (place_of plan.events name))
+    (option_map (λ d. End d) (place_of (end_names plan.uncertains) name))
 
 -- the place of the duration of this name
 abbrev pub uncertain_named : Lists → List ℕ → Option ℕ
@@ -25,7 +28,8 @@ choice_named plan name = place_of (choice_names plan.choices) name
 
 -- the place, in the choice at this place, of the alternative of this name
 abbrev pub alternative_named : Lists → ℕ → List ℕ → Option ℕ
-alternative_named plan choice name = option_and_then (λ c. place_of (alternative_names c) name) (slice_get plan.choices choice)
+alternative_named plan choice name =
+    option_and_then (λ c. place_of (alternative_names c) name) (slice_get plan.choices choice)
 
 -- the place of the requirement of this name
 abbrev pub requirement_named : Lists → List ℕ → Option ℕ
@@ -37,7 +41,11 @@ requirement_in plan slot = find (λ r. r.slot == slot) plan.requirements
 
 -- the literal that the names of a choice and of one of its alternatives spell
 abbrev pub literal_named : Lists → List ℕ × List ℕ → Option Literal
-literal_named plan names = option_and_then (λ c. option_map (λ a. record { choice = c; alternative = a }) (alternative_named plan c names.1)) (choice_named plan names.0)
+literal_named plan names =
+    option_and_then
+    (λ c.
+    option_map (λ a. record { choice = c; alternative = a }) (alternative_named plan c names.1))
+    (choice_named plan names.0)
 
 -- the requirement of this name
 abbrev pub requirement_of : Lists → List ℕ → Option Requirement

@@ -1,5 +1,6 @@
 -- The numbers that a plan may hold.
-use Rattle.std.specs.Prelude.{ℕ, ◌≤◌, ◌<◌, ℤ, pos, negsuc, ◌≤ℤ◌, Option, Some, None, IfSome, ⊤}
+use Rattle.std.specs.Prelude.{ℕ, ◌≤◌, ◌<◌, ℤ, pos, neg_ℤ, ◌≤ℤ◌, Option, Some, None, IfSome, ⊤}
+use Rattle.uhura_plan.specs.declared.limits.TheConstants.{AMOUNT, BOUND, UNIT_PRICE}
 use Rattle.uhura_plan.specs.declared.price.Second.{Second}
 use Rattle.uhura_plan.specs.declared.price.Rate.{Rate}
 use Rattle.uhura_plan.specs.declared.price.Price.{Price}
@@ -7,29 +8,29 @@ use Rattle.uhura_plan.specs.declared.requirement.Bounded.{Bounded}
 
 -- a requirement's bound is from -1,000,000,000 to 1,000,000,000
 pub record IsBound (bound : ℤ) : Type 0 where
-  pub least : negsuc 999999999 ≤ℤ bound
-  pub most : bound ≤ℤ pos 1000000000
+  pub least : neg_ℤ BOUND ≤ℤ bound
+  pub most : bound ≤ℤ BOUND
 
 -- an end of a duration's range is from 0 to 1,000,000,000
 pub record IsRangeEnd (end : ℤ) : Type 0 where
   pub least : pos 0 ≤ℤ end
-  pub most : end ≤ℤ pos 1000000000
+  pub most : end ≤ℤ pos AMOUNT
 
 -- a price for one unit is from 1 to 1,000,000
 pub record IsUnitPrice (price : ℕ) : Type 0 where
   pub least : 1 ≤ price
-  pub most : price ≤ 1000000
+  pub most : price ≤ UNIT_PRICE
 
 -- costs and units are at most 1,000,000,000
 abbrev pub IsAmount : ℕ → Type 0
-IsAmount amount = amount ≤ 1000000000
+IsAmount amount = amount ≤ AMOUNT
 
 -- a second price holds past an amount of 1 or more, and is above the first
 pub record IsSecond (first : ℕ) (second : Second) : Type 0 where
   pub some : 1 ≤ second.after
   pub after : IsAmount second.after
   pub above : first < second.rate
-  pub most : second.rate ≤ 1000000
+  pub most : second.rate ≤ UNIT_PRICE
 
 -- a rate is the price of a unit, and maybe a second price
 pub record IsRate (rate : Rate) : Type 0 where

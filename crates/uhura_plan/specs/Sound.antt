@@ -1,6 +1,7 @@
 -- What a plan always keeps.
 use Rattle.std.specs.Prelude.{◌≡◌, ◌≢◌, ℕ, ◌+◌, ◌*◌, ◌<◌, ◌≤◌, pos, ◌≤ℤ◌, List, length, take, fold, slice_get, Some, IfSome, IsSomeAnd, All, AllPairs, Contains, IsTrue, bytes_eq}
 use Rattle.std.specs.List.{IsDistinct}
+use Rattle.uhura_plan.specs.declared.limits.TheConstants.{ALTERNATIVES, AMOUNT, BRANCHES, CHOICES, EVENTS, REQUIREMENTS, UNCERTAINS}
 use Rattle.uhura_plan.specs.declared.key.EventRef.{EventRef}
 use Rattle.uhura_plan.specs.declared.key.EventRef.TheVariants.{Controllable, End}
 use Rattle.uhura_plan.specs.declared.guard.Literal.{Literal}
@@ -26,7 +27,8 @@ IsEventAmong events uncertains (End uncertain) = uncertain < uncertains
 
 -- the literal's choice is among these, and has the alternative
 abbrev pub IsLiteralAmong : List Choice → Literal → Type 0
-IsLiteralAmong choices literal = IsSomeAnd (slice_get choices literal.choice) (λ c. literal.alternative < length c.alternatives)
+IsLiteralAmong choices literal =
+    IsSomeAnd (slice_get choices literal.choice) (λ c. literal.alternative < length c.alternatives)
 
 -- each literal of a guard is about these choices, and no two are about one choice
 pub record IsGuardAmong (choices : List Choice) (guard : List Literal) : Type 0 where
@@ -40,7 +42,7 @@ pub record IsSoundUncertain (events : ℕ) (uncertain : Uncertain) : Type 0 wher
   pub start : uncertain.start < events
   pub least : pos 0 ≤ℤ uncertain.lower
   pub ordered : uncertain.lower ≤ℤ uncertain.upper
-  pub most : uncertain.upper ≤ℤ pos 1000000000
+  pub most : uncertain.upper ≤ℤ pos AMOUNT
   pub lower_rate : IfSome uncertain.lower_rate IsRate
   pub upper_rate : IfSome uncertain.upper_rate IsRate
 
@@ -48,7 +50,7 @@ pub record IsSoundUncertain (events : ℕ) (uncertain : Uncertain) : Type 0 wher
 pub record IsSoundChoice (earlier : List Choice) (choice : Choice) : Type 0 where
   pub name : IsName choice.name
   pub some : 1 ≤ length choice.alternatives
-  pub few : length choice.alternatives ≤ 16
+  pub few : length choice.alternatives ≤ ALTERNATIVES
   pub names : All IsName (alternative_names choice)
   pub distinct : AreDistinct (alternative_names choice)
   pub costs : All (λ a. IsAmount a.1) choice.alternatives
@@ -57,7 +59,7 @@ pub record IsSoundChoice (earlier : List Choice) (choice : Choice) : Type 0 wher
 -- a requirement between two events that are there, with bounds that don't exclude each other
 pub record IsSoundRequirement (plan : Lists) (requirement : Requirement) : Type 0 where
   pub name : IsName requirement.name
-  pub slot : requirement.slot < 2048
+  pub slot : requirement.slot < REQUIREMENTS
   pub from : IsEventAmong (length plan.events) (length plan.uncertains) requirement.from
   pub to : IsEventAmong (length plan.events) (length plan.uncertains) requirement.to
   pub two_events : requirement.from ≢ requirement.to
@@ -72,13 +74,14 @@ alternatives_product choices = fold (λ n c. n * length c.alternatives) 1 choice
 
 -- the numbers of things are within their limits
 pub record IsWithinCounts (plan : Lists) : Type 0 where
-  pub events : length plan.events + length plan.uncertains ≤ 512
-  pub uncertains : length plan.uncertains ≤ 256
-  pub choices : length plan.choices ≤ 16
-  pub product : alternatives_product plan.choices ≤ 65536
-  pub requirements : length plan.requirements ≤ 2048
+  pub events : length plan.events + length plan.uncertains ≤ EVENTS
+  pub uncertains : length plan.uncertains ≤ UNCERTAINS
+  pub choices : length plan.choices ≤ CHOICES
+  pub product : alternatives_product plan.choices ≤ BRANCHES
+  pub requirements : length plan.requirements ≤ REQUIREMENTS
 
--- no two things of one kind have one name, where events and ends are one kind, and no two requirements have one slot
+-- no two things of one kind have one name, where events and ends are one kind, and no two requirements
+-- have one slot
 pub record HasDistinctNames (plan : Lists) : Type 0 where
   pub events : AreDistinct plan.events
   pub ends : AreDistinct (end_names plan.uncertains)
@@ -94,5 +97,6 @@ pub record IsSound (plan : Lists) : Type 0 where
   pub distinct : HasDistinctNames plan
   pub events : All IsName plan.events
   pub uncertains : All (IsSoundUncertain (length plan.events)) plan.uncertains
-  pub choices : (place : ℕ) (choice : Choice) → slice_get plan.choices place ≡ Some choice → IsSoundChoice (take place plan.choices) choice
+  pub choices : (place : ℕ) (choice : Choice) → slice_get plan.choices place ≡ Some choice
+      → IsSoundChoice (take place plan.choices) choice
   pub requirements : All (IsSoundRequirement plan) plan.requirements

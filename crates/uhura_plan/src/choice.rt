@@ -1,6 +1,7 @@
 //! A discrete choice among named alternatives.
 ghost use Rattle.std.specs.Prelude.{◌≡◌, ◌≤◌, length, map, position, is_some, bytes_eq, All, IfOk, OnOk};
 ghost use Rattle.uhura_plan.specs.Changes.{costs_with};
+ghost use Rattle.uhura_plan.specs.declared.limits.TheConstants.{ALTERNATIVES};
 ghost use Rattle.uhura_plan.specs.Find.{place_of};
 ghost use Rattle.uhura_plan.specs.Sound.{IsName, AreDistinct};
 
@@ -46,13 +47,6 @@ impl Alternatives {
         Ok(Alternatives { pairs: copy })
     }
 
-    /// Gives the `Vec` back.
-    pub fn into_vec(self) -> Vec<(Name, u32)>
-        ensures { result.items ≡ self }
-    {
-        self.pairs
-    }
-
     /// The alternatives as a slice.
     pub fn as_slice(&self) -> &[(Name, u32)]
         ensures { result.now ≡ self.now }
@@ -76,7 +70,7 @@ impl Alternatives {
     }
 }
 
-// The first pair of this name.
+/// The place of the first pair of this name.
 fn pair_named(pairs: &[(Name, u32)], name: Name) -> Option<usize>
     ensures { result ≡ position (λ a. bytes_eq name a.0) pairs.now }
 {
@@ -85,7 +79,7 @@ fn pair_named(pairs: &[(Name, u32)], name: Name) -> Option<usize>
 
 /// The place of the alternative of this name.
 pub(crate) fn alternative_place(alternatives: &[(Name, u32)], name: Name) -> Option<u32>
-    requires { length alternatives.now ≤ 16 }
+    requires { length alternatives.now ≤ ALTERNATIVES }
     ensures { result ≡ place_of (map (λ a. a.0) alternatives.now) name }
 {
     match pair_named(alternatives, name) {
@@ -108,13 +102,12 @@ mod tests {
     use std::test::Fail;
 
     #[test]
-    fn gives_the_alternatives_back(rt: HostRuntime) -> Result<(), Fail> {
+    fn keeps_the_alternatives(rt: HostRuntime) -> Result<(), Fail> {
         let name = Name::read(b"cinema".as_slice())?;
         let mut pairs = Vec::new(rt.alloc());
         pairs.push((name, 30))?;
         let alternatives = Alternatives::from_vec(pairs);
         assert_eq!(rt; alternatives.as_slice(), [(name, 30)].as_slice());
-        assert_eq!(rt; alternatives.into_vec().len(), 1);
         Ok(())
     }
 }

@@ -7,13 +7,12 @@ ghost use Rattle.std.specs.Cmp.Lexicographic.{nat_list_eq_equiv};
 ghost use Rattle.std.specs.Hash as fed;
 ghost use Rattle.std.proofs.lemmas.Slice.Eq.{bytes_eq-Decides};
 ghost use Rattle.uhura_plan.specs.Name.{is_name, is_letter, is_name_byte, is_fixed_word};
+ghost use Rattle.uhura_plan.specs.declared.limits.TheConstants.{NAME_BYTES};
 
+use crate::NAME_BYTES;
 use std::hash::{Hash, Hasher};
 use std::marker::Model;
 use thiserror::Error;
-
-/// The most bytes that a name has.
-pub const NAME_BYTES: usize = 32;
 
 /// A word that is no name.
 #[derive(Clone, Copy, Debug, PartialEq, Eq, Error)]
@@ -23,12 +22,13 @@ pub struct NotName;
 /// The name of an event, a duration, a choice, an alternative, a requirement or a veto.
 #[derive(Clone, Copy, Debug)]
 pub struct Name {
-    bytes: [u8; 32],
+    bytes: [u8; NAME_BYTES],
     len: u8,
 }
 
 impl Model for Name {
     ghost use Rattle.std.specs.Prelude.{List, ℕ, take, length, ◌++◌, ◌-◌, replicate};
+    ghost use Rattle.uhura_plan.specs.declared.limits.TheConstants.{NAME_BYTES};
     ghost use Rattle.uhura_plan.specs.Name.{HoldsName};
     ghost use Rattle.uhura_plan.specs.Padded.{padded-back, length-padded};
 
@@ -38,7 +38,10 @@ impl Model for Name {
 
     ghost invariant = { λ n. HoldsName n.bytes n.len };
 
-    ghost inverse = { λ word. record { bytes = word ++ replicate (32 - length word) 0; len = length word } };
+    ghost inverse = { λ word. record {
+      bytes = word ++ replicate (NAME_BYTES - length word) 0;
+      len = length word;
+    } };
 
     ghost inverse_ok = { λ n held i. record {
       bytes = padded-back n.bytes n.len held i;
@@ -68,7 +71,7 @@ impl Name {
     pub fn bytes(&self) -> &[u8]
         ensures bytes { result.now ≡ self.now }
         ensures name { IsTrue (is_name self.now) }
-        ensures short { length self.now ≤ 32 }
+        ensures short { length self.now ≤ NAME_BYTES }
         ensures some { 1 ≤ length self.now }
     {
         &self.bytes[..self.len as usize]

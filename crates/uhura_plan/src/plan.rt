@@ -15,24 +15,6 @@ use indexmap::{IndexMap, IndexSet};
 use std::alloc::{AllocError, Global};
 use std::marker::Model;
 
-/// The most controllable events and ends of durations together.
-pub const EVENTS: u32 = 512;
-
-/// The most durations.
-pub const UNCERTAINS: u32 = 256;
-
-/// The most choices.
-pub const CHOICES: u32 = 16;
-
-/// The most alternatives of one choice.
-pub const ALTERNATIVES: u32 = 16;
-
-/// The most ways to pick an alternative of each choice: the product of the numbers of alternatives.
-pub const BRANCHES: u32 = 65536;
-
-/// The most requirements at once.
-pub const REQUIREMENTS: u32 = 2048;
-
 /// The events, the durations, the choices and the requirements, each in its order and under its name.
 #[derive(Drop)]
 pub struct Plan {
@@ -49,9 +31,12 @@ impl Model for Plan {
 
     ghost Value = { Lists };
 
-    ghost view = { λ p. lists_of p.events.keys p.uncertains.entries p.choices.entries p.requirements.entries };
+    ghost view = { λ p.
+        lists_of p.events.keys p.uncertains.entries p.choices.entries p.requirements.entries };
 
-    ghost invariant = { λ p. HoldsPlan p.events.keys p.ends.keys p.uncertains.entries p.choices.entries p.requirements.entries };
+    ghost invariant = { λ p.
+        HoldsPlan p.events.keys p.ends.keys p.uncertains.entries p.choices.entries
+        p.requirements.entries };
 }
 
 impl Plan {

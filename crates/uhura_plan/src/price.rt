@@ -2,7 +2,8 @@
 ghost use Rattle.std.specs.Prelude.{◌≡◌};
 ghost use Rattle.uhura_plan.specs.Sides.{rate_in};
 
-/// A second, greater price: units past the first `after`, from 1 to 1,000,000,000, cost `rate` each, at most 1,000,000.
+/// A second, greater price: units past the first `after`, from 1 to 1,000,000,000, cost `rate` each,
+/// at most 1,000,000.
 #[derive(Clone, Copy, Debug, PartialEq, Eq)]
 pub struct Second {
     pub after: u32,

@@ -43,7 +43,15 @@ impl Plan {
         requires lower_rate { IfSome lower_rate IsRate }
         requires upper_rate { IfSome upper_rate IsRate }
         ensures answer { Answers (uncertain_refusal self.old name start end lower upper) result }
-        ensures ok { OnOk result (AddsUncertain self.old self.new name start end lower upper lower_rate upper_rate) }
+        ensures ok { OnOk result (AddsUncertain self.old self.new (record {
+          name = name;
+          start = start;
+          end = end;
+          lower = lower;
+          upper = upper;
+          lower_rate = lower_rate;
+          upper_rate = upper_rate;
+        })) }
         ensures err { OnErr result (self.new ≡ self.old) }
     {
         if let Some(refusal) = self.uncertain_refusal(name, start, end, lower, upper) {
@@ -80,7 +88,11 @@ impl Plan {
         requires some { 1 ≤ length alternatives.now }
         requires costs { All (λ a. IsAmount a.1) alternatives.now }
         ensures answer { Answers (choice_refusal self.old name alternatives.now guard.now) result }
-        ensures ok { OnOk result (AddsChoice self.old self.new name alternatives.now guard.now) }
+        ensures ok { OnOk result (AddsChoice self.old self.new (record {
+          name = name;
+          alternatives = alternatives.now;
+          guard = guard.now;
+        })) }
         ensures err { OnErr result (self.new ≡ self.old) }
     {
         if let Some(refusal) = self.choice_refusal(name, alternatives, guard) {
@@ -111,7 +123,14 @@ impl Plan {
         requires lower { AreWithinLimits lower }
         requires upper { AreWithinLimits upper }
         ensures answer { Answers (requirement_refusal self.old name from to lower upper guard.now) result }
-        ensures ok { OnOk result (AddsRequirement self.old self.new name from to lower upper guard.now) }
+        ensures ok { OnOk result (AddsRequirement self.old self.new (record {
+          name = name;
+          from = from;
+          to = to;
+          lower = lower;
+          upper = upper;
+          guard = guard.now;
+        })) }
         ensures err { OnErr result (self.new ≡ self.old) }
     {
         if let Some(refusal) = self.requirement_refusal(name, from, to, lower, upper, guard) {

@@ -1,8 +1,9 @@
 //! The items that calls state.
-ghost use Rattle.std.specs.Prelude.{◌≡◌, ◌<◌, false, is_none, None, Some, IsSome, map, All};
+ghost use Rattle.std.specs.Prelude.{◌≡◌, ◌<◌, false, is_none, None, Some, IsSome, All};
+ghost use Rattle.uhura_plan.specs.declared.limits.TheConstants.{REQUIREMENTS};
 ghost use Rattle.uhura_plan.specs.Find.{find_event, literal_named};
 ghost use Rattle.uhura_plan.specs.Sound.{IsGuardAmong};
-ghost use Rattle.uhura_plan.specs.Edits.{IsRequirementOf};
+ghost use Rattle.uhura_plan.specs.Edits.{AreLiteralsOf, IsRequirementOf};
 ghost use Rattle.uhura_plan.specs.Refusals.{is_end, requirement_refusal, repeated_in};
 
 use super::Plan;
@@ -21,9 +22,16 @@ impl Plan {
         guard: &[(Name, Name)],
     ) -> Requirement
         requires { requirement_refusal self.now name from to lower upper guard.now ≡ None }
-        ensures stated { IsRequirementOf self.now name from to lower upper guard.now result }
+        ensures stated { IsRequirementOf self.now (record {
+          name = name;
+          from = from;
+          to = to;
+          lower = lower;
+          upper = upper;
+          guard = guard.now;
+        }) result }
         ensures guard { IsGuardAmong self.now.choices result.guard }
-        ensures slot { result.slot < 2048 }
+        ensures slot { result.slot < REQUIREMENTS }
     {
         Requirement {
             name,
@@ -49,7 +57,7 @@ impl Plan {
     pub(super) fn guard_of(&self, names: &[(Name, Name)]) -> Guard
         requires known { All (λ literal. IsSome (literal_named self.now literal)) names.now }
         requires once { repeated_in names.now ≡ None }
-        ensures found { map (λ literal. Some literal) result ≡ map (literal_named self.now) names.now }
+        ensures found { AreLiteralsOf self.now names.now result }
         ensures among { IsGuardAmong self.now.choices result }
     {
         // The plan's invariant bounds the number of choices.

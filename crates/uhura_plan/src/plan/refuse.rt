@@ -1,13 +1,13 @@
 //! Whether an edit is refused, and why.
-ghost use Rattle.std.specs.Prelude.{◌≡◌, nat_le, map, bytes_eq};
+ghost use Rattle.std.specs.Prelude.{◌≡◌, map, bytes_eq};
 ghost use Rattle.std.specs.List.{list_any};
-ghost use Rattle.uhura_plan.specs.Refusals.{refuse_if, carried, unknown_in, empty_between, repeated_at, repeated_in, requirement_refusal};
+ghost use Rattle.uhura_plan.specs.Refusals.{full, carried, unknown_in, empty_between, repeated_at, repeated_in, requirement_refusal};
 
 mod choice;
 mod uncertain;
 
-use super::{Plan, REQUIREMENTS};
-use crate::{Bounded, EditRefusal, Name};
+use super::Plan;
+use crate::{Bounded, EditRefusal, Name, REQUIREMENTS};
 
 impl Plan {
     /// The first refusal of a requirement, where there is one.
@@ -68,7 +68,7 @@ impl Plan {
 
 /// The refusal of one more thing, where as many are there as the limit allows.
 fn reached(limit: u32, has: u32) -> Option<EditRefusal>
-    ensures { result ≡ refuse_if (nat_le limit has) (EditRefusal.Full limit has) }
+    ensures { result ≡ full limit has }
 {
     if has >= limit {
         return Some(EditRefusal::Full { limit, has });

@@ -1,11 +1,12 @@
 //! The refusals of a choice.
 ghost use Rattle.std.specs.Prelude.{◌≡◌, ◌≤◌, length, All};
+ghost use Rattle.uhura_plan.specs.declared.limits.TheConstants.{BRANCHES};
 ghost use Rattle.uhura_plan.specs.Sound.{alternatives_product};
 ghost use Rattle.uhura_plan.specs.Refusals.{choice_refusal};
 
 use super::{carried, reached, repeated_at, repeated_in};
-use crate::plan::{ALTERNATIVES, BRANCHES, CHOICES, Plan};
-use crate::{Choice, EditRefusal, Name};
+use crate::plan::Plan;
+use crate::{ALTERNATIVES, BRANCHES, CHOICES, Choice, EditRefusal, Name};
 
 impl Plan {
     /// The first refusal of a choice, where there is one.
@@ -52,7 +53,7 @@ impl Plan {
     /// The product of the numbers of alternatives of the choices.
     fn alternatives_product(&self) -> u32
         ensures product { result ≡ alternatives_product self.now.choices }
-        ensures few { result ≤ 65536 }
+        ensures few { result ≤ BRANCHES }
     {
         // The plan's invariant bounds the product.
         let _ = &self.choices;
@@ -63,7 +64,7 @@ impl Plan {
 /// The product of the numbers of alternatives of these choices.
 fn alternatives_product(choices: &[Choice]) -> u32
     requires some { All (λ c. 1 ≤ length c.alternatives) choices.now }
-    requires few { alternatives_product choices.now ≤ 65536 }
+    requires few { alternatives_product choices.now ≤ BRANCHES }
     ensures { result ≡ alternatives_product choices.now }
 {
     let mut product = 1;

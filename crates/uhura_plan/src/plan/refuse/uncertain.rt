@@ -3,8 +3,8 @@ ghost use Rattle.std.specs.Prelude.{◌≡◌, Some};
 ghost use Rattle.uhura_plan.specs.Refusals.{is_end, full_of_events, uncertain_refusal};
 
 use super::{empty_between, reached};
-use crate::plan::{EVENTS, Plan, UNCERTAINS};
-use crate::{EditRefusal, EventRef, Name};
+use crate::plan::Plan;
+use crate::{EVENTS, EditRefusal, EventRef, Name, UNCERTAINS};
 
 impl Plan {
     /// The first refusal of a duration, where there is one.

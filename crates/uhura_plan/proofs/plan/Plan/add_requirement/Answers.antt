@@ -12,7 +12,7 @@ invariant_of-self-2 c =
 pub returns-clause-ok : goal.returns-clause-ok
 returns-clause-ok c = record {
   made = c.requirement_of-made.result;
-  stated = c.requirement_of-made.ensures.stated;
+  found = c.requirement_of-made.ensures.stated;
   lists =
       view-with_requirement _ _ _ _ _ _ c.args.name c.args.from c.args.to c.args.lower c.args.upper c.args.guard.now c.requirement_of-made.result _
       c.self.view_is c.self.invariant c.in_ok-insert.ensures.entries (sym c.in_default.ensures) c.requirement_of-made.ensures.stated;
