@@ -56,15 +56,38 @@ refusal_of state c = None
 -- the new plan is what the command makes of the old one
 abbrev pub Edits : Lists → Command → Lists → Type 0
 Edits old (command.Event name) new = new ≡ with_event old name
-Edits old (command.Uncertain name start end lower upper lower_rate upper_rate) new = AddsUncertain old new name start end lower upper lower_rate upper_rate
-Edits old (command.Choice name alternatives guard) new = AddsChoice old new name alternatives guard
-Edits old (command.Require name from to lower upper guard) new = AddsRequirement old new name from to lower upper guard
+Edits old (command.Uncertain name start end lower upper lower_rate upper_rate) new =
+    AddsUncertain old new (record {
+      name = name;
+      start = start;
+      end = end;
+      lower = lower;
+      upper = upper;
+      lower_rate = lower_rate;
+      upper_rate = upper_rate;
+    })
+Edits old (command.Choice name alternatives guard) new =
+    AddsChoice old new (record { name = name; alternatives = alternatives; guard = guard })
+Edits old (command.Require name from to lower upper guard) new =
+    AddsRequirement old new (record {
+      name = name;
+      from = from;
+      to = to;
+      lower = lower;
+      upper = upper;
+      guard = guard;
+    })
 Edits old (command.Drop name) new = new ≡ without_requirement name old
-Edits old (command.Bound name side bound) new = new ≡ change_requirement (with_bound side bound) name old
-Edits old (command.Price name side price) new = new ≡ change_requirement (with_price side price) name old
-Edits old (command.Rate name side rate) new = new ≡ change_uncertain (with_rate side rate) name old
-Edits old (command.Range name lower upper) new = new ≡ change_uncertain (with_range lower upper) name old
-Edits old (command.Prefer choice alternative cost) new = new ≡ change_choice (with_cost alternative cost) choice old
+Edits old (command.Bound name side bound) new =
+    new ≡ change_requirement (with_bound side bound) name old
+Edits old (command.Price name side price) new =
+    new ≡ change_requirement (with_price side price) name old
+Edits old (command.Rate name side rate) new =
+    new ≡ change_uncertain (with_rate side rate) name old
+Edits old (command.Range name lower upper) new =
+    new ≡ change_uncertain (with_range lower upper) name old
+Edits old (command.Prefer choice alternative cost) new =
+    new ≡ change_choice (with_cost alternative cost) choice old
 Edits old c new = new ≡ old
 
 -- a command that edits makes the next state of this one: it has no refusal, and only what it names is edited
