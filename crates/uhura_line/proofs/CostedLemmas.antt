@@ -4,7 +4,7 @@ use Rattle.std.proofs.lemmas.List.{map-append}
 use Rattle.std.proofs.lemmas.List.Folds.{list_all-append}
 use Rattle.uhura_line.specs.declared.parsing.costed.Costed.{Costed}
 use Rattle.uhura_line.specs.Form.{Word}
-use Rattle.uhura_line.specs.Tails.{alternatives_of, begins_with}
+use Rattle.uhura_line.specs.Reader.{alternatives_of, begins_with}
 use Rattle.uhura_line.specs.Costed.{HoldsCosted, ReadsCosted}
 
 pub ruleset costing = (list_all-append, map-append)

@@ -1,5 +1,5 @@
 -- The words of a form whose names and numbers are such are words that a line may hold.
-use Rattle.std.proofs.Common.{◌≡◌, ℕ, ◌<◌, ◌≤◌, ℤ, pos, negsuc, Bool, true, false, cond, not, ◌||◌, ◌&&◌, List, [], ◌∷◌, ◌++◌, length, drop, eqb, leb, leb-true, get_or, Option, Some, None, bytes_eq, refl, sym, subst, arith, le-leb, ltb, ltb-true, true≢false}
+use Rattle.std.proofs.Common.{◌≡◌, ℕ, ◌+◌, ◌<◌, ◌≤◌, ℤ, pos, negsuc, Bool, true, false, cond, not, ◌||◌, ◌&&◌, List, [], ◌∷◌, ◌++◌, length, drop, eqb, leb, leb-true, get_or, Option, Some, None, bytes_eq, refl, sym, subst, arith, le-leb, ltb, ltb-true, true≢false}
 use Rattle.std.specs.Prelude.{codes, int_le}
 use Rattle.std.specs.List.{AllByRecursion, list_all}
 use Rattle.std.specs.Option.{option_map_or}
@@ -16,12 +16,12 @@ use Rattle.uhura_plan.specs.Name.{is_name, is_letter, is_name_byte, is_fixed_wor
 use Rattle.uhura_plan.specs.declared.key.Side.{Side}
 use Rattle.uhura_plan.specs.declared.key.Side.TheVariants.{Lower, Upper}
 use Rattle.uhura_plan.proofs.Names.{least_name, most_name}
-use Rattle.uhura_line.specs.Form.{Word, Priced, Kind, Form, pair_words, guard_words, words_of, side_word, kind_word, requirement, duration, rate_words, price_words, priced_words, set_words, set_rate_words, optional}
+use Rattle.uhura_line.specs.Form.{Word, Past, Rated, Priced, Kind, Form, pair_words, guard_words, words_of, side_word, kind_word, requirement, duration, past_words, rated_words, priced_words, rate_words, price_words, set_words, optional}
 use Rattle.uhura_line.specs.Form as forms
 use Rattle.uhura_line.specs.Written.{line_of, joined, IsLineOf}
 use Rattle.uhura_line.specs.declared.command.Command.{Command}
 use Rattle.uhura_line.proofs.Spacing.{line_of-joined}
-use Rattle.uhura_line.specs.Reads.{form_of, IsCommand, is_number, is_bound, is_rate, is_amount, is_priced, if_there, are_names, has_names, has_numbers}
+use Rattle.uhura_line.specs.Reads.{form_of, IsCommand, magnitude_of, is_number, is_bound, is_first, is_units, is_above, is_past, is_amount, is_rated, is_priced, if_there, are_names, has_names, has_numbers}
 use Rattle.uhura_line.proofs.ReadsBack.{IsWord, AreWords, reads_back}
 
 -- all words of both lists
@@ -114,9 +114,6 @@ bound_by word false e h = within_word (negsuc 999999999) (pos 1000000000) word h
 bound_is_word : (word : Word) → is_bound word ≡ true → IsWord word
 bound_is_word word h = bound_by word (bytes_eq word (codes "-")) refl h
 
-rate_is_word : (word : Word) → is_rate word ≡ true → IsWord word
-rate_is_word word h = within_word (pos 1) (pos 1000000) word h
-
 amount_is_word : (word : Word) → is_amount word ≡ true → IsWord word
 amount_is_word word h = within_word (pos 0) (pos 1000000000) word h
 
@@ -147,26 +144,37 @@ optional_are : (word : Option Word) → if_there is_amount word ≡ true → All
 optional_are None h = tt
 optional_are (Some word) h = (amount_is_word word h, tt)
 
+past_are : (first : Word) (second : Option Past) → if_there (is_past first) second ≡ true → AllByRecursion IsWord (past_words second)
+past_are first None h = tt
+past_are first (Some p) h =
+    let parts = and_parts (is_units p.units) (is_above (magnitude_of first) p.price) h in
+    (letters (codes "past") refl, (within_word (pos 1) (pos 1000000000) p.units parts.0, (within_word (pos (magnitude_of first + 1)) (pos 1000000) p.price parts.1, tt)))
+
+rated_are : (r : Rated) → is_rated r ≡ true → AllByRecursion IsWord (rated_words r)
+rated_are r h =
+    let parts = and_parts (is_first r.first) (if_there (is_past r.first) r.second) h in
+    (within_word (pos 1) (pos 1000000) r.first parts.0, past_are r.first r.second parts.1)
+
 priced_are : (p : Priced) → is_priced p ≡ true → AllByRecursion IsWord (priced_words p)
 priced_are p h =
-    let parts = and_parts (is_rate p.rate) (if_there is_amount p.most) h in
-    (rate_is_word p.rate parts.0, optional_are p.most parts.1)
+    let parts = and_parts (is_rated p.rate) (if_there is_amount p.most) h in
+    both (rated_words p.rate) (optional p.most) (rated_are p.rate parts.0) (optional_are p.most parts.1)
 
-rates_are : (side : Side) (rate : Option Word) → if_there is_rate rate ≡ true → AllByRecursion IsWord (rate_words side rate)
+rates_are : (side : Side) (rate : Option Rated) → if_there is_rated rate ≡ true → AllByRecursion IsWord (rate_words side rate)
 rates_are side None h = tt
-rates_are side (Some word) h = (side_is_word side, (rate_is_word word h, tt))
+rates_are side (Some r) h = (side_is_word side, rated_are r h)
 
-prices_are : (side : Side) (p : Option Priced) → option_map_or is_priced p true ≡ true → AllByRecursion IsWord (price_words side p)
+prices_are : (side : Side) (price : Option Priced) → if_there is_priced price ≡ true → AllByRecursion IsWord (price_words side price)
 prices_are side None h = tt
 prices_are side (Some p) h = (side_is_word side, priced_are p h)
 
-set_are : (p : Option Priced) → option_map_or is_priced p true ≡ true → AllByRecursion IsWord (set_words p)
-set_are None h = (letters (codes "-") refl, tt)
-set_are (Some p) h = priced_are p h
+set_prices_are : (price : Option Priced) → if_there is_priced price ≡ true → AllByRecursion IsWord (set_words priced_words price)
+set_prices_are None h = (letters (codes "-") refl, tt)
+set_prices_are (Some p) h = priced_are p h
 
-set_rate_are : (rate : Option Word) → if_there is_rate rate ≡ true → AllByRecursion IsWord (set_rate_words rate)
-set_rate_are None h = (letters (codes "-") refl, tt)
-set_rate_are (Some word) h = (rate_is_word word h, tt)
+set_rates_are : (rate : Option Rated) → if_there is_rated rate ≡ true → AllByRecursion IsWord (set_words rated_words rate)
+set_rates_are None h = (letters (codes "-") refl, tt)
+set_rates_are (Some r) h = rated_are r h
 
 pairs_are : (pairs : List (Word × Word)) → are_names pairs ≡ true → AllByRecursion IsWord (pair_words pairs)
 pairs_are [] h = tt
@@ -203,7 +211,7 @@ pub form_words : (form : Form) → has_names form ≡ true → has_numbers form 
 form_words (forms.event n) names numbers = verb_and (codes "event") (n ∷ []) (letters (codes "event") refl) (name_word n names, tt) refl
 form_words (forms.uncertain n start end lo hi lower upper) names numbers =
     let named = three (is_name n) (is_name start) (is_name end) names in
-    let numbered = four (is_amount lo) (is_amount hi) (if_there is_rate lower) (if_there is_rate upper) numbers in
+    let numbered = four (is_amount lo) (is_amount hi) (if_there is_rated lower) (if_there is_rated upper) numbers in
     let rates = both (rate_words Lower lower) (rate_words Upper upper) (rates_are Lower lower numbered.2) (rates_are Upper upper numbered.3) in
     verb_and (codes "uncertain") (n ∷ start ∷ end ∷ lo ∷ hi ∷ rate_words Lower lower ++ rate_words Upper upper) (letters (codes "uncertain") refl)
     (name_word n named.0, (name_word start named.1, (name_word end named.2, (amount_is_word lo numbered.0, (amount_is_word hi numbered.1, rates))))) refl
@@ -213,7 +221,7 @@ form_words (forms.choice n alternatives guard) names numbers =
     (name_word n named.0, both (pair_words alternatives) (guard_words guard) (alternatives_are alternatives named.1 numbers) (guard_are guard named.2)) refl
 form_words (forms.require n from to lo hi lower upper guard) names numbers =
     let named = four (is_name n) (is_name from) (is_name to) (are_names guard) names in
-    let numbered = four (is_bound lo) (is_bound hi) (option_map_or is_priced lower true) (option_map_or is_priced upper true) numbers in
+    let numbered = four (is_bound lo) (is_bound hi) (if_there is_priced lower) (if_there is_priced upper) numbers in
     let prices = both (price_words Lower lower) (price_words Upper upper) (prices_are Lower lower numbered.2) (prices_are Upper upper numbered.3) in
     let terms = both (price_words Lower lower ++ price_words Upper upper) (guard_words guard) prices (guard_are guard named.3) in
     verb_and (codes "require") (n ∷ from ∷ to ∷ lo ∷ hi ∷ price_words Lower lower ++ price_words Upper upper ++ guard_words guard) (letters (codes "require") refl)
@@ -222,11 +230,11 @@ form_words (forms.drop n) names numbers = verb_and (codes "drop") (n ∷ []) (le
 form_words (forms.bound n side b) names numbers =
     verb_and (codes "bound") (n ∷ side_word side ∷ b ∷ []) (letters (codes "bound") refl) (name_word n names, (side_is_word side, (bound_is_word b numbers, tt))) refl
 form_words (forms.price n side p) names numbers =
-    verb_and (codes "price") (codes "require" ∷ n ∷ side_word side ∷ set_words p) (letters (codes "price") refl)
-    (letters (codes "require") refl, (name_word n names, (side_is_word side, set_are p numbers))) refl
+    verb_and (codes "price") (codes "require" ∷ n ∷ side_word side ∷ set_words priced_words p) (letters (codes "price") refl)
+    (letters (codes "require") refl, (name_word n names, (side_is_word side, set_prices_are p numbers))) refl
 form_words (forms.rate n side r) names numbers =
-    verb_and (codes "price") (codes "uncertain" ∷ n ∷ side_word side ∷ set_rate_words r) (letters (codes "price") refl)
-    (letters (codes "uncertain") refl, (name_word n names, (side_is_word side, set_rate_are r numbers))) refl
+    verb_and (codes "price") (codes "uncertain" ∷ n ∷ side_word side ∷ set_words rated_words r) (letters (codes "price") refl)
+    (letters (codes "uncertain") refl, (name_word n names, (side_is_word side, set_rates_are r numbers))) refl
 form_words (forms.range n lo hi) names numbers =
     let numbered = and_parts (is_amount lo) (is_amount hi) numbers in
     verb_and (codes "range") (n ∷ lo ∷ hi ∷ []) (letters (codes "range") refl) (name_word n names, (amount_is_word lo numbered.0, (amount_is_word hi numbered.1, tt))) refl

@@ -3,7 +3,7 @@ use Rattle.std.proofs.Common.{◌≡◌, Bool, true, false, cond, List, [], ◌�
 use Rattle.std.proofs.lemmas.Slice.Eq.{bytes_eq-Decides}
 use Rattle.uhura_line.specs.declared.parsing.pairs.Pairs.{Pairs}
 use Rattle.uhura_line.specs.Form.{Word, pair_words, guard_words}
-use Rattle.uhura_line.specs.Tails.{pairs_of, guard_of, begins_with}
+use Rattle.uhura_line.specs.Reader.{pairs_of, guard_of, begins_with}
 use Rattle.uhura_line.specs.Pairs.{HoldsPairs, ReadsPairs, ReadsGuard}
 use Rattle.uhura_line.proofs.Pairing.{pairs_found, pairs_are}
 

@@ -1,24 +1,53 @@
 -- What a whole line is parsed to.
-use Rattle.std.proofs.Common.{◌≡◌, ℕ, false, List, [], ◌∷◌, Result, Ok, Err, Some, bytes_eq, ap, sym, subst, ◌∙◌}
-use Rattle.std.specs.List.{list_any}
+use Rattle.std.proofs.Common.{◌≡◌, ℕ, true, false, List, [], ◌∷◌, Option, None, Some, is_some, Result, Ok, Err, refl, ap, sym, subst, ◌∙◌}
 use Rattle.uhura_text.specs.Words.{words}
 use Rattle.uhura_line.specs.declared.command.Command.{Command}
+use Rattle.uhura_line.specs.declared.parsing.verb.Verb as verbs
 use Rattle.uhura_line.specs.declared.refusal.LineRefusal.{LineRefusal}
 use Rattle.uhura_line.specs.declared.refusal.LineRefusal.TheVariants.{Long, Byte, Verb, Form, Number, Name, Memory}
-use Rattle.uhura_line.specs.Form.{Word}
-use Rattle.uhura_line.specs.Parses.{verbs, begins_with_verb, ParsesWords, IsWorded, Parses}
+use Rattle.uhura_line.specs.Form as grammar
+use Rattle.uhura_line.specs.Form.{Word, IsTaken, IsForm}
+use Rattle.uhura_line.specs.Reads.{has_numbers, has_names}
+use Rattle.uhura_line.specs.Verbs.{verb_in, form_behind, form_in}
+use Rattle.uhura_line.specs.Parses.{begins_with_verb, ParsesForm, ParsesAs, ParsesWords, IsWorded, Parses}
+use Rattle.uhura_line.proofs.OneForm.{found_in_line, form_are}
+
+-- words of a form
+of_form : (line : List Word) (f : grammar.Form) (result : Result Command LineRefusal) → IsForm line f → ParsesForm f result → ParsesWords line result
+of_form line f (Ok c) is h = (
+  subst (λ (x : grammar.Form). IsForm line x) (sym h.0) is,
+  record { taken = subst IsTaken (sym h.0) is.taken; names = ap has_names h.0 ∙ h.2; numbers = ap has_numbers h.0 ∙ h.1 },
+)
+of_form line f (Err Long) is h = absurd h
+of_form line f (Err (Byte at)) is h = absurd h
+of_form line f (Err Verb) is h = absurd h
+of_form line f (Err Form) is h = absurd h
+of_form line f (Err Number) is h = (has_names f, record { form = f; is_form = is; has_numbers = h; has_names = λ _. refl })
+of_form line f (Err Name) is h = record { form = f; is_form = is; has_numbers = h.0; has_names = λ _. h.1 }
+of_form line f (Err (Memory error)) is h = record { form = f; is_form = is; has_numbers = h.0; has_names = λ _. h.1 }
+
+-- what words are parsed to, from the form that is read from them
+pub parses : (line : List Word) (result : Result Command LineRefusal) → begins_with_verb line ≡ true → ParsesAs (form_in line) result → ParsesWords line result
+parses line result verb h = by_form (form_in line) refl h
+  where
+    no_form : form_in line ≡ None → (f : grammar.Form) → IsForm line f → ⊥
+    no_form none f is = let found = found_in_line line f is in cc
+    by_form : (found : Option grammar.Form) → form_in line ≡ found → ParsesAs found result → ParsesWords line result
+    by_form None e h = subst (λ (r : Result Command LineRefusal). ParsesWords line r) (sym h) (verb, no_form e)
+    by_form (Some f) e h = of_form line f result (form_are line f e) h
 
 -- a line whose first word is a verb is parsed as that verb with the words behind it
-pub line-verb : (line rest : List Word) (word verb : Word) (result : Result Command LineRefusal) → line ≡ word ∷ rest → word ≡ verb → ParsesWords (verb ∷ rest) result → ParsesWords line result
-line-verb line rest word verb result e same h =
-    let P : List Word → Type 0 = λ l. ParsesWords l result in
-    subst P (sym (e ∙ ap (λ w. w ∷ rest) same)) h
+pub line-verb : (line rest : List Word) (word : Word) (verb : verbs.Verb) (result : Result Command LineRefusal) → line ≡ word ∷ rest → Some verb ≡ verb_in word → ParsesAs (form_behind verb rest) result → ParsesWords line result
+line-verb line rest word verb result e told h =
+    let begins : begins_with_verb (word ∷ rest) ≡ true = ap is_some (sym told) in
+    let form : form_in (word ∷ rest) ≡ form_behind verb rest = rw (← told) refl in
+    subst (λ (l : List Word). ParsesWords l result) (sym e) (parses (word ∷ rest) result begins (subst (λ (o : Option grammar.Form). ParsesAs o result) (sym form) h))
 
 pub line-no_word : (line : List Word) → line ≡ [] → ParsesWords line (Err Verb)
 line-no_word line e = ap begins_with_verb e
 
-pub line-no_verb : (line rest : List Word) (word : Word) → line ≡ word ∷ rest → list_any (bytes_eq word) verbs ≡ false → ParsesWords line (Err Verb)
-line-no_verb line rest word e none = ap begins_with_verb e ∙ none
+pub line-no_verb : (line rest : List Word) (word : Word) → line ≡ word ∷ rest → None ≡ verb_in word → ParsesWords line (Err Verb)
+line-no_verb line rest word e none = ap begins_with_verb e ∙ ap is_some (sym none)
 
 pub ruleset begun = (line-verb, line-no_word, line-no_verb)
 

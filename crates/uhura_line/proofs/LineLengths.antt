@@ -2,7 +2,7 @@
 use Rattle.std.proofs.Common.{◌≡◌, ◌+◌, ◌*◌, ◌≤◌, List, [], ◌∷◌, length, Option, Some, None, refl, arith, length-append}
 use Rattle.std.specs.List.{AllByRecursion}
 use Rattle.uhura_plan.specs.declared.key.Side.{Side}
-use Rattle.uhura_line.specs.Form.{Word, Priced, pair_words, guard_words, rate_words, price_words, optional}
+use Rattle.uhura_line.specs.Form.{Word, Past, Rated, Priced, pair_words, guard_words, past_words, rated_words, rate_words, price_words, optional}
 use Rattle.uhura_line.specs.Written.{spaced, joined}
 use Rattle.uhura_line.proofs.ReadsBack.{IsWord, AreWords}
 
@@ -26,14 +26,18 @@ pub length-guard_words : (guard : List (Word × Word)) → length (guard_words g
 length-guard_words [] = omega arith
 length-guard_words (pair ∷ guard) = omega (arith, length-pair_words guard)
 
-pub length-rate_words : (side : Side) (rate : Option Word) → length (rate_words side rate) ≤ 2
-length-rate_words side None = omega arith
-length-rate_words side (Some word) = omega arith
+length-past_words : (second : Option Past) → length (past_words second) ≤ 3
+length-past_words None = omega arith
+length-past_words (Some second) = omega arith
 
 length-optional : (word : Option Word) → length (optional word) ≤ 1
 length-optional None = omega arith
 length-optional (Some word) = omega arith
 
-pub length-price_words : (side : Side) (price : Option Priced) → length (price_words side price) ≤ 3
+pub length-rate_words : (side : Side) (rate : Option Rated) → length (rate_words side rate) ≤ 5
+length-rate_words side None = omega arith
+length-rate_words side (Some r) = omega (arith, length-past_words r.second)
+
+pub length-price_words : (side : Side) (price : Option Priced) → length (price_words side price) ≤ 6
 length-price_words side None = omega arith
-length-price_words side (Some p) = omega (arith, length-optional p.most)
+length-price_words side (Some p) = omega (arith, length-past_words p.rate.second, length-optional p.most, length-append (rated_words p.rate) (optional p.most))

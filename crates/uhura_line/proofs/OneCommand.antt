@@ -1,22 +1,25 @@
 -- No form is of two commands: a command is read back from its form, and each form whose numbers and names are such is of one.
-use Rattle.std.proofs.Common.{◌≡◌, ℕ, cond, Bool, true, false, ◌&&◌, ◌||◌, List, [], ◌∷◌, map, ℤ, pos, negsuc, int_le, Option, Some, None, option_map, codes, bytes_eq, refl, ap, sym, subst, ◌∙◌}
+use Rattle.std.proofs.Common.{◌≡◌, ℕ, ◌+◌, cond, Bool, true, false, ◌&&◌, ◌||◌, List, [], ◌∷◌, map, ℤ, pos, negsuc, int_le, Option, Some, None, option_map, codes, bytes_eq, refl, ap, sym, subst, ◌∙◌}
 use Rattle.std.specs.Option.{option_map_or}
 use Rattle.std.specs.List.{list_all}
 use Rattle.std.proofs.lemmas.Bool.{and_parts}
 use Rattle.std.proofs.lemmas.Slice.Eq.{bytes_eq-Decides}
 use Rattle.uhura_text.specs.Number.{number_of, spelling}
 use Rattle.uhura_text.proofs.SpellingLemmas.{spelling-number_of}
-use Rattle.uhura_plan.specs.declared.requirement.Price.{Price}
+use Rattle.uhura_plan.specs.declared.price.Second.{Second}
+use Rattle.uhura_plan.specs.declared.price.Rate.{Rate}
+use Rattle.uhura_plan.specs.declared.price.Price.{Price}
+use Rattle.uhura_plan.specs.Sides.{rate_in}
 use Rattle.uhura_plan.specs.declared.requirement.Bounded.{Bounded}
 use Rattle.uhura_line.specs.declared.command.Command.{Command}
 use Rattle.uhura_line.specs.declared.command.Command.TheVariants as command
 use Rattle.uhura_line.specs.declared.command.ItemName.{ItemName}
 use Rattle.uhura_line.specs.declared.command.ItemName.TheVariants as item
-use Rattle.uhura_line.specs.Form.{Word, Priced, Kind, requirement, duration, Form, event, uncertain, choice, require, bound, price, rate, range, prefer, deny, cap, withdraw, show, propose, prove, IsTaken, IsForm}
+use Rattle.uhura_line.specs.Form.{Word, Past, Rated, Priced, Kind, requirement, duration, Form, event, uncertain, choice, require, bound, price, rate, range, prefer, deny, cap, withdraw, show, propose, prove, IsTaken, IsForm}
 use Rattle.uhura_line.specs.Form as form
-use Rattle.uhura_line.specs.Reads.{count_word, bound_word, priced_of, alternative_pairs, kind_of, name_of, form_of, is_number, is_bound, is_rate, is_amount, if_there, is_priced, has_numbers, has_names, IsCommand}
-use Rattle.uhura_line.proofs.OneForm.{one_form, other_word}
-use Rattle.uhura_line.proofs.OneSpelling.{AreLimits, is_spelled, bound_limits, amount_limits, rate_limits, not_dash}
+use Rattle.uhura_line.specs.Reads.{count_word, magnitude_of, bound_word, past_of, rated_of, priced_of, alternative_pairs, kind_of, name_of, form_of, is_number, is_bound, is_first, is_units, is_above, is_past, is_amount, if_there, is_rated, is_priced, has_numbers, has_names, IsCommand}
+use Rattle.uhura_line.proofs.OneForm.{one_form}
+use Rattle.uhura_line.proofs.OneSpelling.{AreLimits, is_spelled, bound_limits, amount_limits, units_limits, first_limits, above_limits, other_word, not_dash}
 
 -- ---- numbers
 
@@ -81,38 +84,76 @@ word-bound_at word is = by_dash (bytes_eq word (codes "-")) refl is
 
 -- ---- parts of a form that may be missing
 
-rates_at-words : (rates : Option ℕ) → if_there is_rate (option_map count_word rates) ≡ true → option_map count_at (option_map count_word rates) ≡ rates
-rates_at-words None is = refl
-rates_at-words (Some n) is = ap Some (count_at-word (pos 1) (pos 1000000) n rate_limits is)
-
 amounts_at-words : (most : Option ℕ) → if_there is_amount (option_map count_word most) ≡ true → option_map count_at (option_map count_word most) ≡ most
 amounts_at-words None is = refl
 amounts_at-words (Some n) is = ap Some (count_at-word (pos 0) (pos 1000000000) n amount_limits is)
-
-words-rates_at : (words : Option Word) → if_there is_rate words ≡ true → option_map count_word (option_map count_at words) ≡ words
-words-rates_at None is = refl
-words-rates_at (Some word) is = ap Some (word-count_at 1 (pos 1000000) word is)
 
 words-amounts_at : (words : Option Word) → if_there is_amount words ≡ true → option_map count_word (option_map count_at words) ≡ words
 words-amounts_at None is = refl
 words-amounts_at (Some word) is = ap Some (word-count_at 0 (pos 1000000000) word is)
 
-price_at : Priced → Price
-price_at p = record { rate = count_at p.rate; most = option_map count_at p.most }
+-- a second price
+second_at : Past → Second
+second_at p = record { after = count_at p.units; rate = count_at p.price }
 
-prices_at-words : (p : Option Price) → option_map_or is_priced (option_map priced_of p) true ≡ true → option_map price_at (option_map priced_of p) ≡ p
-unfolding price_at
+seconds_at-words : (first : ℕ) (second : Option Second) → is_first (count_word first) ≡ true → if_there (is_past (count_word first)) (option_map past_of second) ≡ true → option_map second_at (option_map past_of second) ≡ second
+unfolding second_at
+seconds_at-words first None is_first is = refl
+seconds_at-words first (Some s) is_first is =
+    let parts = and_parts (is_units (count_word s.after)) (is_above (magnitude_of (count_word first)) (count_word s.rate)) is in
+    rw (count_at-word (pos 1) (pos 1000000000) s.after units_limits parts.0, count_at-word (pos (magnitude_of (count_word first) + 1)) (pos 1000000) s.rate (above_limits (magnitude_of (count_word first))) parts.1) refl
+
+words-seconds_at : (first : Word) (second : Option Past) → if_there (is_past first) second ≡ true → option_map past_of (option_map second_at second) ≡ second
+unfolding second_at
+words-seconds_at first None is = refl
+words-seconds_at first (Some p) is =
+    let parts = and_parts (is_units p.units) (is_above (magnitude_of first) p.price) is in
+    rw (word-count_at 1 (pos 1000000000) p.units parts.0, word-count_at (magnitude_of first + 1) (pos 1000000) p.price parts.1) refl
+
+-- a rate
+rate_at : Rated → Rate
+rate_at r = record { first = count_at r.first; second = option_map second_at r.second }
+
+rate_at-words : (r : Rate) → is_rated (rated_of r) ≡ true → rate_at (rated_of r) ≡ r
+unfolding rate_at
+rate_at-words r is =
+    let parts = and_parts (is_first (count_word r.first)) (if_there (is_past (count_word r.first)) (option_map past_of r.second)) is in
+    rw (count_at-word (pos 1) (pos 1000000) r.first first_limits parts.0, seconds_at-words r.first r.second parts.0 parts.1) refl
+
+words-rate_at : (r : Rated) → is_rated r ≡ true → rated_of (rate_at r) ≡ r
+unfolding rate_at
+words-rate_at r is =
+    let parts = and_parts (is_first r.first) (if_there (is_past r.first) r.second) is in
+    rw (word-count_at 1 (pos 1000000) r.first parts.0, words-seconds_at r.first r.second parts.1) refl
+
+rates_at-words : (rate : Option Rate) → if_there is_rated (option_map rated_of rate) ≡ true → option_map rate_at (option_map rated_of rate) ≡ rate
+rates_at-words None is = refl
+rates_at-words (Some r) is = ap Some (rate_at-words r is)
+
+words-rates_at : (words : Option Rated) → if_there is_rated words ≡ true → option_map rated_of (option_map rate_at words) ≡ words
+words-rates_at None is = refl
+words-rates_at (Some r) is = ap Some (words-rate_at r is)
+
+-- a price
+price_of : Rate → Option ℕ → Price
+price_of r most = record { rate = r.first; second = r.second; most = most }
+
+price_at : Priced → Price
+price_at p = price_of (rate_at p.rate) (option_map count_at p.most)
+
+prices_at-words : (p : Option Price) → if_there is_priced (option_map priced_of p) ≡ true → option_map price_at (option_map priced_of p) ≡ p
+unfolding price_at price_of
 prices_at-words None is = refl
 prices_at-words (Some p) is =
-    let parts = and_parts (is_rate (count_word p.rate)) (if_there is_amount (option_map count_word p.most)) is in
-    rw (count_at-word (pos 1) (pos 1000000) p.rate rate_limits parts.0, amounts_at-words p.most parts.1) refl
+    let parts = and_parts (is_rated (rated_of (rate_in p))) (if_there is_amount (option_map count_word p.most)) is in
+    rw (rate_at-words (rate_in p) parts.0, amounts_at-words p.most parts.1) refl
 
-words-prices_at : (p : Option Priced) → option_map_or is_priced p true ≡ true → option_map priced_of (option_map price_at p) ≡ p
-unfolding price_at
+words-prices_at : (p : Option Priced) → if_there is_priced p ≡ true → option_map priced_of (option_map price_at p) ≡ p
+unfolding price_at price_of
 words-prices_at None is = refl
 words-prices_at (Some p) is =
-    let parts = and_parts (is_rate p.rate) (if_there is_amount p.most) is in
-    rw (word-count_at 1 (pos 1000000) p.rate parts.0, words-amounts_at p.most parts.1) refl
+    let parts = and_parts (is_rated p.rate) (if_there is_amount p.most) is in
+    rw (words-rate_at p.rate parts.0, words-amounts_at p.most parts.1) refl
 
 -- ---- alternatives
 
@@ -157,20 +198,20 @@ name_of-at duration n = refl
 side_at : Word → Option Priced → Bounded
 side_at b p = record { bound = bound_at b; price = option_map price_at p }
 
-side_at-words : (side : Bounded) → is_bound (bound_word side.bound) ≡ true → option_map_or is_priced (option_map priced_of side.price) true ≡ true → side_at (bound_word side.bound) (option_map priced_of side.price) ≡ side
+side_at-words : (side : Bounded) → is_bound (bound_word side.bound) ≡ true → if_there is_priced (option_map priced_of side.price) ≡ true → side_at (bound_word side.bound) (option_map priced_of side.price) ≡ side
 unfolding side_at
 side_at-words side of_bound of_price = rw (bound_at-word side.bound of_bound, prices_at-words side.price of_price) refl
 
 -- the command of a form
 command_of : Form → Command
 command_of (event n) = command.Event n
-command_of (uncertain n start end lo hi lower upper) = command.Uncertain n start end (number_at lo) (number_at hi) (option_map count_at lower) (option_map count_at upper)
+command_of (uncertain n start end lo hi lower upper) = command.Uncertain n start end (number_at lo) (number_at hi) (option_map rate_at lower) (option_map rate_at upper)
 command_of (choice n alternatives guard) = command.Choice n (alternatives_at alternatives) guard
 command_of (require n from to lo hi lower upper guard) = command.Require n from to (side_at lo lower) (side_at hi upper) guard
 command_of (form.drop n) = command.Drop n
 command_of (bound n side b) = command.Bound n side (bound_at b)
 command_of (price n side p) = command.Price n side (option_map price_at p)
-command_of (rate n side r) = command.Rate n side (option_map count_at r)
+command_of (rate n side r) = command.Rate n side (option_map rate_at r)
 command_of (range n lo hi) = command.Range n (number_at lo) (number_at hi)
 command_of (prefer c a cost) = command.Prefer c a (count_at cost)
 command_of (deny v literals) = command.Deny v literals
@@ -185,14 +226,14 @@ command_of-form_of : (c : Command) → has_numbers (form_of c) ≡ true → comm
 unfolding command_of
 command_of-form_of (command.Event n) is = refl
 command_of-form_of (command.Uncertain n start end lo hi lower upper) is =
-    let (three, last) = and_parts (is_amount (spelling lo) && is_amount (spelling hi) && if_there is_rate (option_map count_word lower)) (if_there is_rate (option_map count_word upper)) is in
-    let (two, third) = and_parts (is_amount (spelling lo) && is_amount (spelling hi)) (if_there is_rate (option_map count_word lower)) three in
+    let (three, last) = and_parts (is_amount (spelling lo) && is_amount (spelling hi) && if_there is_rated (option_map rated_of lower)) (if_there is_rated (option_map rated_of upper)) is in
+    let (two, third) = and_parts (is_amount (spelling lo) && is_amount (spelling hi)) (if_there is_rated (option_map rated_of lower)) three in
     let (first, second) = and_parts (is_amount (spelling lo)) (is_amount (spelling hi)) two in
     rw (number_at-spelling (pos 0) (pos 1000000000) lo amount_limits first, number_at-spelling (pos 0) (pos 1000000000) hi amount_limits second, rates_at-words lower third, rates_at-words upper last) refl
 command_of-form_of (command.Choice n alternatives guard) is = rw (alternatives_at-pairs alternatives is) refl
 command_of-form_of (command.Require n from to lower upper guard) is =
-    let (three, last) = and_parts (is_bound (bound_word lower.bound) && is_bound (bound_word upper.bound) && option_map_or is_priced (option_map priced_of lower.price) true) (option_map_or is_priced (option_map priced_of upper.price) true) is in
-    let (two, third) = and_parts (is_bound (bound_word lower.bound) && is_bound (bound_word upper.bound)) (option_map_or is_priced (option_map priced_of lower.price) true) three in
+    let (three, last) = and_parts (is_bound (bound_word lower.bound) && is_bound (bound_word upper.bound) && if_there is_priced (option_map priced_of lower.price)) (if_there is_priced (option_map priced_of upper.price)) is in
+    let (two, third) = and_parts (is_bound (bound_word lower.bound) && is_bound (bound_word upper.bound)) (if_there is_priced (option_map priced_of lower.price)) three in
     let (first, second) = and_parts (is_bound (bound_word lower.bound)) (is_bound (bound_word upper.bound)) two in
     rw (side_at-words lower first third, side_at-words upper second last) refl
 command_of-form_of (command.Drop n) is = refl
@@ -215,14 +256,14 @@ form_of-command_of : (f : Form) → has_numbers f ≡ true → form_of (command_
 unfolding command_of side_at
 form_of-command_of (event n) is = refl
 form_of-command_of (uncertain n start end lo hi lower upper) is =
-    let (three, last) = and_parts (is_amount lo && is_amount hi && if_there is_rate lower) (if_there is_rate upper) is in
-    let (two, third) = and_parts (is_amount lo && is_amount hi) (if_there is_rate lower) three in
+    let (three, last) = and_parts (is_amount lo && is_amount hi && if_there is_rated lower) (if_there is_rated upper) is in
+    let (two, third) = and_parts (is_amount lo && is_amount hi) (if_there is_rated lower) three in
     let (first, second) = and_parts (is_amount lo) (is_amount hi) two in
     rw (spelling-number_at (pos 0) (pos 1000000000) lo first, spelling-number_at (pos 0) (pos 1000000000) hi second, words-rates_at lower third, words-rates_at upper last) refl
 form_of-command_of (choice n alternatives guard) is = rw (pairs-alternatives_at alternatives is) refl
 form_of-command_of (require n from to lo hi lower upper guard) is =
-    let (three, last) = and_parts (is_bound lo && is_bound hi && option_map_or is_priced lower true) (option_map_or is_priced upper true) is in
-    let (two, third) = and_parts (is_bound lo && is_bound hi) (option_map_or is_priced lower true) three in
+    let (three, last) = and_parts (is_bound lo && is_bound hi && if_there is_priced lower) (if_there is_priced upper) is in
+    let (two, third) = and_parts (is_bound lo && is_bound hi) (if_there is_priced lower) three in
     let (first, second) = and_parts (is_bound lo) (is_bound hi) two in
     rw (word-bound_at lo first, word-bound_at hi second, words-prices_at lower third, words-prices_at upper last) refl
 form_of-command_of (form.drop n) is = refl

@@ -1,13 +1,14 @@
 -- A number that is read from its spelling, within limits, is the number spelled.
-use Rattle.std.proofs.Common.{◌≡◌, ◌≢◌, codes, ℕ, zero, suc, cond, ◌==◌, ne_eqb, ◌+◌, ◌/◌, ◌%◌, ◌^◌, ◌<◌, ◌≤◌, Bool, true, false, ◌&&◌, List, [], ◌∷◌, length, ℤ, pos, negsuc, unsigned_abs, int_le, inl, inr, Option, Some, None, refl, arith}
+use Rattle.std.proofs.Common.{◌≡◌, ◌≢◌, codes, ℕ, zero, suc, cond, ◌==◌, ne_eqb, ◌+◌, ◌/◌, ◌%◌, ◌^◌, ◌<◌, ◌≤◌, Bool, true, false, ◌&&◌, List, [], ◌∷◌, length, ℤ, pos, negsuc, unsigned_abs, int_le, inl, inr, Option, Some, None, bytes_eq, refl, arith}
 use Rattle.std.specs.Option.{option_map_or}
 use Rattle.std.specs.Fmt.{decimal, digits, digits_onto, digit_glyph}
 use Rattle.std.proofs.lemmas.Bool.{cases_lt}
 use Rattle.std.proofs.lemmas.Fmt.{length-decimal-le_wide}
 use Rattle.std.proofs.lemmas.Int.{ints}
+use Rattle.std.proofs.lemmas.Slice.Eq.{bytes_eq-Decides}
 use Rattle.uhura_text.specs.Number.{number_of, spelling, is_magnitude}
 use Rattle.uhura_text.proofs.SpellingLemmas.{number_of-spelling, spelling-number_of}
-use Rattle.uhura_line.specs.Reads.{is_number}
+use Rattle.uhura_line.specs.Reads.{count_word, magnitude_of, is_number, is_first}
 
 -- a bound on the lengths of both of two lists
 either_long : (test : Bool) (m : ℕ) (first second : List ℕ) → m ≤ length first → m ≤ length second → m ≤ length (cond test first second)
@@ -77,15 +78,27 @@ is_spelled low high z limits is = by_read (number_of (spelling z)) refl is
         let short : length (spelling z) ≤ 11 = rw same (spelling-short y (limits.small y within)) in
         number_of-spelling z (short_spelling z short)
 
--- the limits of bounds, of amounts and of rates
+-- the limits of bounds, of amounts, of units and of prices
 pub bound_limits : AreLimits (negsuc 999999999) (pos 1000000000)
 bound_limits = record { small = in_limits }
 
 pub amount_limits : AreLimits (pos 0) (pos 1000000000)
 amount_limits = record { small = λ z h. grind (arith, ints) }
 
-pub rate_limits : AreLimits (pos 1) (pos 1000000)
-rate_limits = record { small = λ z h. grind (arith, ints) }
+pub first_limits : AreLimits (pos 1) (pos 1000000)
+first_limits = record { small = λ z h. grind (arith, ints) }
+
+pub units_limits : AreLimits (pos 1) (pos 1000000000)
+units_limits = record { small = λ z h. grind (arith, ints) }
+
+pub above_limits : (first : ℕ) → AreLimits (pos (first + 1)) (pos 1000000)
+above_limits first = record { small = λ z h. grind (arith, ints) }
+
+-- a first price is counted as the number that is written
+pub magnitude_of-word : (n : ℕ) → is_first (count_word n) ≡ true → magnitude_of (count_word n) ≡ n
+magnitude_of-word n is = rw (is_spelled (pos 1) (pos 1000000) (pos n) first_limits is) refl
+
+pub ruleset firsts = (magnitude_of-word)
 
 -- `-` is no number
 no_number : number_of (codes "-") ≡ None
@@ -99,3 +112,11 @@ not_dash z same =
     let read : number_of (spelling z) ≡ Some z = number_of-spelling z (short_spelling z short) in
     let none : number_of (spelling z) ≡ None = rw same no_number in
     cc
+
+-- a word that differs from another one fails its test
+pub other_word : (word other : List ℕ) → word ≢ other → bytes_eq word other ≡ false
+other_word word other differs = by_test (bytes_eq word other) refl
+  where
+    by_test : (test : Bool) → bytes_eq word other ≡ test → test ≡ false
+    by_test true same = elim (differs ((bytes_eq-Decides word other).0 same)) [ ]
+    by_test false same = refl

@@ -2,7 +2,7 @@
 use Rattle.std.proofs.Common.{◌≡◌, List, [], ◌∷◌, ◌++◌, Option, Some, None, option_map, refl, ap, sym, ◌∙◌, append_assoc, append-nil}
 use Rattle.uhura_line.specs.declared.parsing.pairs.Pairs.{Pairs}
 use Rattle.uhura_line.specs.Form.{Word, pair_words}
-use Rattle.uhura_line.specs.Tails.{pairs_of}
+use Rattle.uhura_line.specs.Reader.{pairs_of}
 use Rattle.uhura_line.specs.Pairs.{HoldsPairs, ReadsPairs}
 
 -- what was read of all words is these pairs, and the others are still to come

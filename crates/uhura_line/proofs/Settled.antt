@@ -1,114 +1,99 @@
 -- What a line is parsed to is settled.
-use Rattle.std.proofs.Common.{◌≡◌, Bool, true, false, List, Ok, Err, refl, ap, sym, ◌∙◌}
+use Rattle.std.proofs.Common.{◌≡◌, true, false, List, [], ◌∷◌, Option, Some, None, Ok, Err, is_some, refl, sym, ◌∙◌}
+use Rattle.std.specs.Prelude.{if◌then◌else◌}
+use Rattle.std.specs.Option.{option_map_or, option_and_then}
 use Rattle.std.specs.declared.alloc.AllocError.{AllocError}
 use Rattle.uhura_line.specs.declared.command.Command.{Command}
+use Rattle.uhura_line.specs.declared.parsing.verb.Verb.{Verb}
 use Rattle.uhura_line.specs.declared.refusal.LineRefusal.{LineRefusal}
 use Rattle.uhura_line.specs.declared.refusal.LineRefusal.TheVariants as refusal
-use Rattle.uhura_line.specs.Form.{Word, Form, event, uncertain, choice, require, bound, price, rate, range, prefer, deny, cap, withdraw, show, propose, prove, words_of, IsForm}
-use Rattle.uhura_line.specs.Form as form
+use Rattle.uhura_line.specs.Form.{Word, Form, IsForm}
 use Rattle.uhura_line.specs.Reads.{form_of, has_numbers, has_names}
+use Rattle.uhura_line.specs.Verbs.{verb_in, form_behind, form_in}
 use Rattle.uhura_line.specs.Parses.{begins_with_verb, HasForm, ParsesWords}
-use Rattle.uhura_line.proofs.OneForm.{one_form}
+use Rattle.uhura_line.proofs.OneForm.{found_in_line, form_are}
 
--- each form begins with a verb
-words_of-verb : (f : Form) → begins_with_verb (words_of f) ≡ true
-words_of-verb (event n) = refl
-words_of-verb (uncertain n start end lo hi lower upper) = refl
-words_of-verb (choice n alternatives guard) = refl
-words_of-verb (require n from to lo hi lower upper guard) = refl
-words_of-verb (form.drop n) = refl
-words_of-verb (bound n side b) = refl
-words_of-verb (price n side p) = refl
-words_of-verb (rate n side r) = refl
-words_of-verb (range n lo hi) = refl
-words_of-verb (prefer c a cost) = refl
-words_of-verb (deny v literals) = refl
-words_of-verb (cap v kind n side units) = refl
-words_of-verb (withdraw v) = refl
-words_of-verb show = refl
-words_of-verb propose = refl
-words_of-verb prove = refl
+-- why words of a form, or words, give no command, want of memory aside
+form_cause : Form → Option LineRefusal
+form_cause f = if has_numbers f then (if has_names f then None else Some refusal.Name) else Some refusal.Number
 
-verb_first : (line : List Word) (f : Form) → IsForm line f → begins_with_verb line ≡ true
-verb_first line f is = ap begins_with_verb is.words_are ∙ words_of-verb f
+cause : List Word → Option LineRefusal
+cause line = if begins_with_verb line then option_map_or form_cause (form_in line) (Some refusal.Form) else Some refusal.Verb
 
--- the tests of a line's form are settled
-two_forms : (line : List Word) (numbers names more_numbers more_names : Bool) → HasForm line numbers names → HasForm line more_numbers more_names → numbers ≡ more_numbers
-two_forms line numbers names more_numbers more_names is also =
-    sym is.has_numbers ∙ ap has_numbers (one_form line is.form also.form is.is_form also.is_form) ∙ also.has_numbers
+-- the cause that a refusal tells
+cause_told : LineRefusal → Option LineRefusal
+cause_told (refusal.Memory error) = None
+cause_told r = Some r
 
-two_names : (line : List Word) (names more_names : Bool) → HasForm line true names → HasForm line true more_names → names ≡ more_names
-two_names line names more_names is also =
-    sym (is.has_names refl) ∙ ap has_names (one_form line is.form also.form is.is_form also.is_form) ∙ also.has_names refl
+-- words of a form begin with a verb
+verb_found : (line : List Word) (f : Form) → form_in line ≡ Some f → begins_with_verb line ≡ true
+verb_found [] f h = cc
+verb_found (word ∷ words) f h = by_verb (verb_in word) h
+  where
+    by_verb : (verb : Option Verb) → option_and_then (λ v. form_behind v words) verb ≡ Some f → is_some verb ≡ true
+    by_verb None h = cc
+    by_verb (Some verb) h = refl
 
--- a line with a command has a form whose numbers and names are such
-accepted_form : (line : List Word) (c : Command) → ParsesWords line (Ok c) → HasForm line true true
-accepted_form line c ok = record { form = form_of c; is_form = ok.0; has_numbers = ok.1.numbers; has_names = λ _. ok.1.names }
+-- words whose form has these numbers and names
+has_form : (line : List Word) (f : Form) → IsForm line f → cause line ≡ form_cause f
+unfolding cause
+has_form line f is =
+    let found = found_in_line line f is in
+    rw (verb_found line f found, found) refl
 
-no_verb : {A : Type 0} → (line : List Word) (f : Form) → begins_with_verb line ≡ false → IsForm line f → A
-no_verb line f none is = let first = verb_first line f is in cc
+-- a refusal tells the cause
+cause_is : (line : List Word) (r : LineRefusal) → ParsesWords line (Err r) → cause line ≡ cause_told r
+unfolding cause form_cause cause_told
+cause_is line refusal.Long h = absurd h
+cause_is line (refusal.Byte at) h = absurd h
+cause_is line refusal.Verb h = rw h refl
+cause_is line refusal.Form h = by_form (form_in line) refl
+  where
+    by_form : (found : Option Form) → form_in line ≡ found → cause line ≡ Some refusal.Form
+    by_form None e = rw (h.0, e) refl
+    by_form (Some f) e = absurd (h.1 f (form_are line f e))
+cause_is line refusal.Number h = has_form line h.1.form h.1.is_form ∙ rw h.1.has_numbers refl
+cause_is line refusal.Name h = has_form line h.form h.is_form ∙ rw (h.has_numbers, h.has_names refl) refl
+cause_is line (refusal.Memory error) h = has_form line h.form h.is_form ∙ rw (h.has_numbers, h.has_names refl) refl
 
--- a line with a command is refused for want of memory alone
-pub accepted : (line : List Word) (c : Command) (r : LineRefusal) → ParsesWords line (Ok c) → ParsesWords line (Err r) → (error : AllocError) × (r ≡ refusal.Memory error)
-accepted line c refusal.Long ok err = elim err [ ]
-accepted line c (refusal.Byte at) ok err = elim err [ ]
-accepted line c refusal.Verb ok err = no_verb line (form_of c) err ok.0
-accepted line c refusal.Form ok err = elim (err.1 (form_of c) ok.0) [ ]
-accepted line c refusal.Number ok err = let same = two_forms line true true false err.0 (accepted_form line c ok) err.1 in absurd (cc)
-accepted line c refusal.Name ok err = let same = two_names line true false (accepted_form line c ok) err in absurd (cc)
-accepted line c (refusal.Memory error) ok err = (error, refl)
+memory_alone : (r : LineRefusal) → cause_told r ≡ None → (error : AllocError) × (r ≡ refusal.Memory error)
+unfolding cause_told
+memory_alone (refusal.Memory error) h = (error, refl)
+memory_alone refusal.Long h = cc
+memory_alone (refusal.Byte at) h = cc
+memory_alone refusal.Verb h = cc
+memory_alone refusal.Form h = cc
+memory_alone refusal.Number h = cc
+memory_alone refusal.Name h = cc
+
+is_told : (r s : LineRefusal) → ◌≡◌ {A = Option LineRefusal} (Some r) (cause_told s) → r ≡ s
+unfolding cause_told
+is_told r refusal.Long h = cc
+is_told r (refusal.Byte at) h = cc
+is_told r refusal.Verb h = cc
+is_told r refusal.Form h = cc
+is_told r refusal.Number h = cc
+is_told r refusal.Name h = cc
+is_told r (refusal.Memory error) h = cc
+
+same_cause : (r s : LineRefusal) → cause_told r ≡ cause_told s → r ≡ s
+unfolding cause_told
+same_cause (refusal.Memory error) s h = sym (memory_alone s (sym h)).1
+same_cause refusal.Long s h = is_told refusal.Long s h
+same_cause (refusal.Byte at) s h = is_told (refusal.Byte at) s h
+same_cause refusal.Verb s h = is_told refusal.Verb s h
+same_cause refusal.Form s h = is_told refusal.Form s h
+same_cause refusal.Number s h = is_told refusal.Number s h
+same_cause refusal.Name s h = is_told refusal.Name s h
 
 -- a refused line has one cause
 pub one_cause : (line : List Word) (r s : LineRefusal) → ParsesWords line (Err r) → ParsesWords line (Err s) → r ≡ s
-one_cause line refusal.Long s is_r is_s = elim is_r [ ]
-one_cause line (refusal.Byte at) s is_r is_s = elim is_r [ ]
-one_cause line refusal.Verb s is_r is_s = of_verb s is_s
+one_cause line r s is_r is_s = same_cause r s (sym (cause_is line r is_r) ∙ cause_is line s is_s)
+
+-- a line with a command is refused for want of memory alone
+pub accepted : (line : List Word) (c : Command) (r : LineRefusal) → ParsesWords line (Ok c) → ParsesWords line (Err r) → (error : AllocError) × (r ≡ refusal.Memory error)
+unfolding form_cause
+accepted line c r ok err = memory_alone r (sym (cause_is line r err) ∙ has_form line (form_of c) ok.0 ∙ none)
   where
-    of_verb : (s : LineRefusal) → ParsesWords line (Err s) → refusal.Verb ≡ s
-    of_verb refusal.Long is_s = elim is_s [ ]
-    of_verb (refusal.Byte at) is_s = elim is_s [ ]
-    of_verb refusal.Verb is_s = refl
-    of_verb refusal.Form is_s = let first = is_s.0 in cc
-    of_verb refusal.Number is_s = no_verb line is_s.1.form is_r is_s.1.is_form
-    of_verb refusal.Name is_s = no_verb line is_s.form is_r is_s.is_form
-    of_verb (refusal.Memory error) is_s = no_verb line is_s.form is_r is_s.is_form
-one_cause line refusal.Form s is_r is_s = of_form s is_s
-  where
-    of_form : (s : LineRefusal) → ParsesWords line (Err s) → refusal.Form ≡ s
-    of_form refusal.Long is_s = elim is_s [ ]
-    of_form (refusal.Byte at) is_s = elim is_s [ ]
-    of_form refusal.Verb is_s = let first = is_r.0 in cc
-    of_form refusal.Form is_s = refl
-    of_form refusal.Number is_s = elim (is_r.1 is_s.1.form is_s.1.is_form) [ ]
-    of_form refusal.Name is_s = elim (is_r.1 is_s.form is_s.is_form) [ ]
-    of_form (refusal.Memory error) is_s = elim (is_r.1 is_s.form is_s.is_form) [ ]
-one_cause line refusal.Number s is_r is_s = of_number s is_s
-  where
-    of_number : (s : LineRefusal) → ParsesWords line (Err s) → refusal.Number ≡ s
-    of_number refusal.Long is_s = elim is_s [ ]
-    of_number (refusal.Byte at) is_s = elim is_s [ ]
-    of_number refusal.Verb is_s = no_verb line is_r.1.form is_s is_r.1.is_form
-    of_number refusal.Form is_s = elim (is_s.1 is_r.1.form is_r.1.is_form) [ ]
-    of_number refusal.Number is_s = refl
-    of_number refusal.Name is_s = let same = two_forms line false is_r.0 true false is_r.1 is_s in cc
-    of_number (refusal.Memory error) is_s = let same = two_forms line false is_r.0 true true is_r.1 is_s in cc
-one_cause line refusal.Name s is_r is_s = of_name s is_s
-  where
-    of_name : (s : LineRefusal) → ParsesWords line (Err s) → refusal.Name ≡ s
-    of_name refusal.Long is_s = elim is_s [ ]
-    of_name (refusal.Byte at) is_s = elim is_s [ ]
-    of_name refusal.Verb is_s = no_verb line is_r.form is_s is_r.is_form
-    of_name refusal.Form is_s = elim (is_s.1 is_r.form is_r.is_form) [ ]
-    of_name refusal.Number is_s = let same = two_forms line true false false is_s.0 is_r is_s.1 in cc
-    of_name refusal.Name is_s = refl
-    of_name (refusal.Memory error) is_s = let same = two_names line false true is_r is_s in cc
-one_cause line (refusal.Memory error) s is_r is_s = of_memory s is_s
-  where
-    of_memory : (s : LineRefusal) → ParsesWords line (Err s) → refusal.Memory error ≡ s
-    of_memory refusal.Long is_s = elim is_s [ ]
-    of_memory (refusal.Byte at) is_s = elim is_s [ ]
-    of_memory refusal.Verb is_s = no_verb line is_r.form is_s is_r.is_form
-    of_memory refusal.Form is_s = elim (is_s.1 is_r.form is_r.is_form) [ ]
-    of_memory refusal.Number is_s = let same = two_forms line true true false is_s.0 is_r is_s.1 in cc
-    of_memory refusal.Name is_s = let same = two_names line true false is_r is_s in cc
-    of_memory (refusal.Memory other) is_s = refl
+    none : form_cause (form_of c) ≡ None
+    none = rw (ok.1.numbers, ok.1.names) refl

@@ -6,7 +6,7 @@ use Rattle.uhura_line.specs.declared.parsing.costed.Costed.{Costed}
 use Rattle.uhura_line.specs.declared.parsing.costed.Costed.TheVariants as code
 use Rattle.uhura_line.specs.Form.{Word}
 use Rattle.uhura_line.specs.Reads.{is_amount, alternative_pairs}
-use Rattle.uhura_line.specs.Tails.{alternatives_of}
+use Rattle.uhura_line.specs.Reader.{alternatives_of}
 
 -- what was read are these pairs, or memory ran out, or a word is no number, or else no name
 abbrev pub HoldsCosted : Costed → List (Word × Word) → Type 0

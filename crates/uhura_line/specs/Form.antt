@@ -1,15 +1,26 @@
 -- The forms of a line: for each, the words that stand at its places.
-use Rattle.std.specs.Prelude.{◌≡◌, ◌≢◌, ℕ, List, [], ◌∷◌, ◌++◌, flat_map, None, Some, Option, codes}
-use Rattle.std.specs.List.{AllByRecursion}
+use Rattle.std.specs.Prelude.{◌≡◌, ◌≢◌, ℕ, Bool, false, ◌&&◌, List, [], ◌∷◌, ◌++◌, flat_map, None, Some, Option, IfSome, bytes_eq, codes}
+use Rattle.std.specs.List.{AllByRecursion, list_any}
+use Rattle.std.specs.Option.{is_none}
 use Rattle.uhura_plan.specs.declared.key.Side.{Side}
 use Rattle.uhura_plan.specs.declared.key.Side.TheVariants.{Lower, Upper}
 
 abbrev pub Word : Type 0
 Word = List ℕ
 
--- the words PRICE and MAX of a side
+-- the words UNITS and PRICE of a second price
+pub record Past : Type 0 where
+  pub units : Word
+  pub price : Word
+
+-- the words of a RATE: PRICE, and maybe a second price
+pub record Rated : Type 0 where
+  pub first : Word
+  pub second : Option Past
+
+-- the words RATE and MAX of a side
 pub record Priced : Type 0 where
-  pub rate : Word
+  pub rate : Rated
   pub most : Option Word
 
 -- the words `require` and `uncertain` that say what kind of thing a name is of
@@ -20,13 +31,13 @@ pub data Kind : Type 0 where
 -- a form with the words at its places
 pub data Form : Type 0 where
   event : Word → Form
-  uncertain : Word → Word → Word → Word → Word → Option Word → Option Word → Form
+  uncertain : Word → Word → Word → Word → Word → Option Rated → Option Rated → Form
   choice : Word → List (Word × Word) → List (Word × Word) → Form
   require : Word → Word → Word → Word → Word → Option Priced → Option Priced → List (Word × Word) → Form
   drop : Word → Form
   bound : Word → Side → Word → Form
   price : Word → Side → Option Priced → Form
-  rate : Word → Side → Option Word → Form
+  rate : Word → Side → Option Rated → Form
   range : Word → Word → Word → Form
   prefer : Word → Word → Word → Form
   deny : Word → List (Word × Word) → Form
@@ -49,28 +60,36 @@ abbrev pub optional : Option Word → List Word
 optional None = []
 optional (Some word) = word ∷ []
 
--- PRICE and, where it is there, MAX
+-- `past`, UNITS and PRICE, or nothing
+abbrev pub past_words : Option Past → List Word
+past_words None = []
+past_words (Some second) = codes "past" ∷ second.units ∷ second.price ∷ []
+
+-- PRICE and, where it is there, the second price
+abbrev pub rated_words : Rated → List Word
+rated_words r = r.first ∷ past_words r.second
+
+-- RATE and, where it is there, MAX
 abbrev pub priced_words : Priced → List Word
-priced_words p = p.rate ∷ optional p.most
+priced_words p = rated_words p.rate ++ optional p.most
 
--- a side with its PRICE, or nothing
-abbrev pub rate_words : Side → Option Word → List Word
-rate_words side None = []
-rate_words side (Some word) = side_word side ∷ word ∷ []
+-- a side with the words of what it has, or nothing
+abbrev pub side_words : {A : Type 0} → (A → List Word) → Side → Option A → List Word
+side_words words side None = []
+side_words words side (Some x) = side_word side ∷ words x
 
--- a side with its PRICE and MAX, or nothing
+-- a side with its RATE, or nothing
+abbrev pub rate_words : Side → Option Rated → List Word
+rate_words side r = side_words rated_words side r
+
+-- a side with its RATE and MAX, or nothing
 abbrev pub price_words : Side → Option Priced → List Word
-price_words side None = []
-price_words side (Some p) = side_word side ∷ priced_words p
+price_words side p = side_words priced_words side p
 
--- a price that is set, or `-` for one that is taken away
-abbrev pub set_words : Option Priced → List Word
-set_words None = codes "-" ∷ []
-set_words (Some p) = priced_words p
-
-abbrev pub set_rate_words : Option Word → List Word
-set_rate_words None = codes "-" ∷ []
-set_rate_words (Some word) = word ∷ []
+-- the words of what is set, or `-` for what is taken away
+abbrev pub set_words : {A : Type 0} → (A → List Word) → Option A → List Word
+set_words words None = codes "-" ∷ []
+set_words words (Some x) = words x
 
 -- pairs, one behind the other
 abbrev pub pair_words : List (Word × Word) → List Word
@@ -91,8 +110,8 @@ words_of (require n from to lo hi lower upper guard) =
     codes "require" ∷ n ∷ from ∷ to ∷ lo ∷ hi ∷ price_words Lower lower ++ price_words Upper upper ++ guard_words guard
 words_of (drop n) = codes "drop" ∷ n ∷ []
 words_of (bound n side b) = codes "bound" ∷ n ∷ side_word side ∷ b ∷ []
-words_of (price n side p) = codes "price" ∷ codes "require" ∷ n ∷ side_word side ∷ set_words p
-words_of (rate n side r) = codes "price" ∷ codes "uncertain" ∷ n ∷ side_word side ∷ set_rate_words r
+words_of (price n side p) = codes "price" ∷ codes "require" ∷ n ∷ side_word side ∷ set_words priced_words p
+words_of (rate n side r) = codes "price" ∷ codes "uncertain" ∷ n ∷ side_word side ∷ set_words rated_words r
 words_of (range n lo hi) = codes "range" ∷ n ∷ lo ∷ hi ∷ []
 words_of (prefer c a cost) = codes "prefer" ∷ c ∷ a ∷ cost ∷ []
 words_of (deny v literals) = codes "deny" ∷ v ∷ pair_words literals
@@ -102,33 +121,45 @@ words_of show = codes "show" ∷ []
 words_of propose = codes "propose" ∷ []
 words_of prove = codes "prove" ∷ []
 
--- MAX is none of the words that begin what may follow it
-abbrev pub IsMax : List Word → Option Word → Type 0
-IsMax others None = Unit {0}
-IsMax others (Some word) = AllByRecursion (λ other. word ≢ other) others
+-- ---- where a word could stand at two places of a form, the one that the language takes
 
-abbrev pub HasMax : List Word → Option Priced → Type 0
-HasMax others None = Unit {0}
-HasMax others (Some p) = IsMax others p.most
+-- a word is one of these
+abbrev pub is_among : List Word → Word → Bool
+is_among words word = list_any (bytes_eq word) words
 
--- a price that is set without MAX is not `-`
-abbrev pub IsSetPrice : Option Priced → Type 0
-IsSetPrice None = Unit {0}
-IsSetPrice (Some p) = p.most ≡ None → p.rate ≢ codes "-"
+-- the words that begin what may follow the price of a side of a requirement
+abbrev pub followers : Side → List Word
+followers Lower = codes "upper" ∷ codes "when" ∷ []
+followers Upper = codes "when" ∷ []
 
-abbrev pub IsSetRate : Option Word → Type 0
-IsSetRate None = Unit {0}
-IsSetRate (Some word) = word ≢ codes "-"
+-- the words that aren't MAX behind a RATE: `past`, where it has no second price, and those that begin what may follow
+abbrev pub not_max : Option Past → List Word → List Word
+not_max None others = codes "past" ∷ others
+not_max (Some second) others = others
 
--- where a word could stand at two places of a form, the one that the language takes: alternatives end at the first
--- `when`, and MAX is what doesn't begin the next part
+abbrev pub HasMax : List Word → Priced → Type 0
+HasMax others p = IfSome p.most (λ word. is_among (not_max p.rate.second others) word ≡ false)
+
+-- the words of a rate, or of a price, are `-` alone
+abbrev pub is_dash_rate : Rated → Bool
+is_dash_rate r = is_none r.second && bytes_eq r.first (codes "-")
+
+abbrev pub is_dash_price : Priced → Bool
+is_dash_price p = is_none p.most && is_dash_rate p.rate
+
+-- a price that is set: nothing follows its MAX, and it isn't `-`
+pub record IsSetPrice (p : Priced) : Type 0 where
+  pub max : HasMax [] p
+  pub some : is_dash_price p ≡ false
+
+-- alternatives end at the first `when`, MAX is what doesn't begin the next part, and `-` alone takes a price away
 abbrev pub IsTaken : Form → Type 0
 IsTaken (choice n alternatives guard) =
     (alternatives ≢ []) × AllByRecursion (λ word. word ≢ codes "when") (pair_words alternatives)
 IsTaken (require n from to lo hi lower upper guard) =
-    HasMax (codes "upper" ∷ codes "when" ∷ []) lower × HasMax (codes "when" ∷ []) upper
-IsTaken (price n side p) = IsSetPrice p
-IsTaken (rate n side r) = IsSetRate r
+    IfSome lower (HasMax (followers Lower)) × IfSome upper (HasMax (followers Upper))
+IsTaken (price n side p) = IfSome p IsSetPrice
+IsTaken (rate n side r) = IfSome r (λ r. is_dash_rate r ≡ false)
 IsTaken (deny v literals) = literals ≢ []
 IsTaken form = Unit {0}
 

@@ -3,7 +3,7 @@ pub mod Parses
 pub mod Reads
 pub mod Verbs
 pub mod Kinds
-pub mod Tails
+pub mod Reader
 pub mod Pairs
 pub mod Costed
 pub mod Written

@@ -1,6 +1,6 @@
 -- What a line is parsed to.
-use Rattle.std.specs.Prelude.{◌≡◌, ℕ, ◌-◌, ◌^◌, ◌<◌, ◌≤◌, min, Bool, true, false, List, [], ◌∷◌, length, None, Some, Option, option_map, Result, Ok, Err, bytes_eq, codes}
-use Rattle.std.specs.List.{list_any}
+use Rattle.std.specs.Prelude.{◌≡◌, ℕ, ◌-◌, ◌^◌, ◌<◌, ◌≤◌, min, Bool, true, false, List, [], ◌∷◌, length, None, Some, Option, option_map, is_some, Result, Ok, Err}
+use Rattle.uhura_line.specs.Verbs.{verb_in}
 use Rattle.uhura_text.specs.Words.{words, first_bad, is_quiet}
 use Rattle.uhura_line.specs.declared.command.Command.{Command}
 use Rattle.uhura_line.specs.declared.refusal.LineRefusal.{LineRefusal}
@@ -8,14 +8,9 @@ use Rattle.uhura_line.specs.declared.refusal.LineRefusal.TheVariants.{Long, Byte
 use Rattle.uhura_line.specs.Form as grammar
 use Rattle.uhura_line.specs.Reads.{form_of, has_numbers, has_names, IsCommand}
 
--- the words that a command may begin with
-abbrev pub verbs : List grammar.Word
-verbs = codes "event" ∷ codes "uncertain" ∷ codes "choice" ∷ codes "require" ∷ codes "drop" ∷ codes "bound" ∷ codes "price" ∷ codes "range"
-    ∷ codes "prefer" ∷ codes "deny" ∷ codes "cap" ∷ codes "withdraw" ∷ codes "show" ∷ codes "propose" ∷ codes "prove" ∷ []
-
 abbrev pub begins_with_verb : List grammar.Word → Bool
 begins_with_verb [] = false
-begins_with_verb (word ∷ more) = list_any (bytes_eq word) verbs
+begins_with_verb (word ∷ more) = is_some (verb_in word)
 
 -- a form of the words whose names and numbers are such, as far as said
 pub record HasForm (line : List grammar.Word) (numbers names : Bool) : Type 0 where
@@ -23,6 +18,22 @@ pub record HasForm (line : List grammar.Word) (numbers names : Bool) : Type 0 wh
   pub is_form : grammar.IsForm line form
   pub has_numbers : has_numbers form ≡ numbers
   pub has_names : numbers ≡ true → has_names form ≡ names
+
+-- what words of a form are parsed to: the command that is written so, or why its words give none
+abbrev pub ParsesForm : grammar.Form → Result Command LineRefusal → Type 0
+ParsesForm form (Ok c) = (form_of c ≡ form) × (has_numbers form ≡ true) × (has_names form ≡ true)
+ParsesForm form (Err Long) = ⊥
+ParsesForm form (Err (Byte at)) = ⊥
+ParsesForm form (Err Verb) = ⊥
+ParsesForm form (Err Form) = ⊥
+ParsesForm form (Err Number) = has_numbers form ≡ false
+ParsesForm form (Err Name) = (has_numbers form ≡ true) × (has_names form ≡ false)
+ParsesForm form (Err (Memory error)) = (has_numbers form ≡ true) × (has_names form ≡ true)
+
+-- what words are parsed to, from the form that is read from them
+abbrev pub ParsesAs : Option grammar.Form → Result Command LineRefusal → Type 0
+ParsesAs None result = result ≡ Err Form
+ParsesAs (Some form) result = ParsesForm form result
 
 -- the words of a line with no bad byte are a command, or are refused for the first cause; want of memory comes last
 abbrev pub ParsesWords : List grammar.Word → Result Command LineRefusal → Type 0

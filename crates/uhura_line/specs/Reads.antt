@@ -1,15 +1,18 @@
 -- The form of a command, and the limits that its numbers keep.
-use Rattle.std.specs.Prelude.{ℕ, ℤ, pos, negsuc, int_le, Bool, true, false, ◌&&◌, ◌||◌, IsTrue, List, map, None, Some, Option, option_map, bytes_eq, codes}
+use Rattle.std.specs.Prelude.{ℕ, ◌+◌, ℤ, pos, negsuc, int_le, unsigned_abs, Bool, true, false, ◌&&◌, ◌||◌, IsTrue, List, map, None, Some, Option, option_map, bytes_eq, codes}
 use Rattle.std.specs.List.{list_all}
 use Rattle.std.specs.Option.{option_map_or}
 use Rattle.uhura_text.specs.Number.{number_of, spelling}
 use Rattle.uhura_plan.specs.Name.{is_name}
-use Rattle.uhura_plan.specs.declared.requirement.Price.{Price}
+use Rattle.uhura_plan.specs.declared.price.Second.{Second}
+use Rattle.uhura_plan.specs.declared.price.Rate.{Rate}
+use Rattle.uhura_plan.specs.declared.price.Price.{Price}
+use Rattle.uhura_plan.specs.Sides.{rate_in}
 use Rattle.uhura_line.specs.declared.command.Command.{Command}
 use Rattle.uhura_line.specs.declared.command.Command.TheVariants as command
 use Rattle.uhura_line.specs.declared.command.ItemName.{ItemName}
 use Rattle.uhura_line.specs.declared.command.ItemName.TheVariants as item
-use Rattle.uhura_line.specs.Form.{Word, Priced, Kind, requirement, duration, Form, event, uncertain, choice, require, drop, bound, price, rate, range, prefer, deny, cap, withdraw, show, propose, prove, IsTaken}
+use Rattle.uhura_line.specs.Form.{Word, Past, Rated, Priced, Kind, requirement, duration, Form, event, uncertain, choice, require, drop, bound, price, rate, range, prefer, deny, cap, withdraw, show, propose, prove, IsTaken}
 
 -- a number that isn't below 0, as it is written
 abbrev pub count_word : ℕ → Word
@@ -20,8 +23,15 @@ abbrev pub bound_word : Option ℤ → Word
 bound_word None = codes "-"
 bound_word (Some z) = spelling z
 
+-- a second price, a rate and a price as they are written
+abbrev pub past_of : Second → Past
+past_of second = record { units = count_word second.after; price = count_word second.rate }
+
+abbrev pub rated_of : Rate → Rated
+rated_of r = record { first = count_word r.first; second = option_map past_of r.second }
+
 abbrev pub priced_of : Price → Priced
-priced_of p = record { rate = count_word p.rate; most = option_map count_word p.most }
+priced_of p = record { rate = rated_of (rate_in p); most = option_map count_word p.most }
 
 -- alternatives with their costs as they are written
 abbrev pub alternative_pairs : List (List ℕ × ℕ) → List (Word × Word)
@@ -39,14 +49,14 @@ name_of (item.Uncertain n) = n
 abbrev pub form_of : Command → Form
 form_of (command.Event n) = event n
 form_of (command.Uncertain n start end lo hi lower upper) =
-    uncertain n start end (spelling lo) (spelling hi) (option_map count_word lower) (option_map count_word upper)
+    uncertain n start end (spelling lo) (spelling hi) (option_map rated_of lower) (option_map rated_of upper)
 form_of (command.Choice n alternatives guard) = choice n (alternative_pairs alternatives) guard
 form_of (command.Require n from to lower upper guard) =
     require n from to (bound_word lower.bound) (bound_word upper.bound) (option_map priced_of lower.price) (option_map priced_of upper.price) guard
 form_of (command.Drop n) = drop n
 form_of (command.Bound n side b) = bound n side (bound_word b)
 form_of (command.Price n side p) = price n side (option_map priced_of p)
-form_of (command.Rate n side r) = rate n side (option_map count_word r)
+form_of (command.Rate n side r) = rate n side (option_map rated_of r)
 form_of (command.Range n lo hi) = range n (spelling lo) (spelling hi)
 form_of (command.Prefer c a cost) = prefer c a (count_word cost)
 form_of (command.Deny v literals) = deny v literals
@@ -66,29 +76,50 @@ is_number low high word = option_map_or (λ z. int_le low z && int_le z high) (n
 abbrev pub is_bound : Word → Bool
 is_bound word = bytes_eq word (codes "-") || is_number (negsuc 999999999) (pos 1000000000) word
 
--- a price for one unit, from 1 to 1,000,000
-abbrev pub is_rate : Word → Bool
-is_rate word = is_number (pos 1) (pos 1000000) word
+-- a first price for one unit, from 1 to 1,000,000
+abbrev pub is_first : Word → Bool
+is_first word = is_number (pos 1) (pos 1000000) word
+
+-- UNITS that a first price covers, from 1 to 1,000,000,000
+abbrev pub is_units : Word → Bool
+is_units word = is_number (pos 1) (pos 1000000000) word
+
+-- a second price, from the first plus 1 to 1,000,000
+abbrev pub is_above : ℕ → Word → Bool
+is_above first word = is_number (pos (first + 1)) (pos 1000000) word
+
+-- the number that a word writes, without its sign
+abbrev pub magnitude_of : Word → ℕ
+magnitude_of word = option_map_or unsigned_abs (number_of word) 0
+
+-- the words of a second price behind a first one
+abbrev pub is_past : Word → Past → Bool
+is_past first second = is_units second.units && is_above (magnitude_of first) second.price
 
 -- an end of a range, a cost or units, from 0 to 1,000,000,000
 abbrev pub is_amount : Word → Bool
 is_amount word = is_number (pos 0) (pos 1000000000) word
 
--- a test that holds of a word that is there
-abbrev pub if_there : (Word → Bool) → Option Word → Bool
-if_there test word = option_map_or test word true
+-- a test that holds of what is there
+abbrev pub if_there : {A : Type 0} → (A → Bool) → Option A → Bool
+if_there test part = option_map_or test part true
+
+abbrev pub is_rated : Rated → Bool
+is_rated r = is_first r.first && if_there (is_past r.first) r.second
 
 abbrev pub is_priced : Priced → Bool
-is_priced p = is_rate p.rate && if_there is_amount p.most
+is_priced p = is_rated p.rate && if_there is_amount p.most
 
 -- each word at a number's place is a number within the limits of that place
 abbrev pub has_numbers : Form → Bool
-has_numbers (uncertain n start end lo hi lower upper) = is_amount lo && is_amount hi && if_there is_rate lower && if_there is_rate upper
+has_numbers (uncertain n start end lo hi lower upper) =
+    is_amount lo && is_amount hi && if_there is_rated lower && if_there is_rated upper
 has_numbers (choice n alternatives guard) = list_all (λ a. is_amount a.1) alternatives
-has_numbers (require n from to lo hi lower upper guard) = is_bound lo && is_bound hi && option_map_or is_priced lower true && option_map_or is_priced upper true
+has_numbers (require n from to lo hi lower upper guard) =
+    is_bound lo && is_bound hi && if_there is_priced lower && if_there is_priced upper
 has_numbers (bound n side b) = is_bound b
-has_numbers (price n side p) = option_map_or is_priced p true
-has_numbers (rate n side r) = if_there is_rate r
+has_numbers (price n side p) = if_there is_priced p
+has_numbers (rate n side r) = if_there is_rated r
 has_numbers (range n lo hi) = is_amount lo && is_amount hi
 has_numbers (prefer c a cost) = is_amount cost
 has_numbers (cap v kind n side units) = is_amount units

@@ -1,6 +1,6 @@
 //! What a line commands.
 use crate::Literals;
-use uhura_plan::{Alternatives, Bounded, Name, Price, Side};
+use uhura_plan::{Alternatives, Bounded, Name, Price, Rate, Side};
 
 /// A requirement or an uncertain duration, by name.
 #[derive(Clone, Copy, Debug)]
@@ -22,8 +22,8 @@ pub enum Command {
         end: Name,
         lower: i64,
         upper: i64,
-        lower_rate: Option<u32>,
-        upper_rate: Option<u32>,
+        lower_rate: Option<Rate>,
+        upper_rate: Option<Rate>,
     },
     Choice {
         name: Name,
@@ -54,7 +54,7 @@ pub enum Command {
     Rate {
         name: Name,
         side: Side,
-        rate: Option<u32>,
+        rate: Option<Rate>,
     },
     Range {
         name: Name,

@@ -12,7 +12,6 @@ mod dispatch;
 mod guard;
 mod kind;
 mod pairs;
-mod part;
 mod places;
 mod price;
 mod priced;

@@ -1,7 +1,7 @@
 //! Lines and what they are parsed to, by hand from the table of forms.
 use crate::{Command, LineRefusal, parse, write_command};
 use std::test::Fail;
-use uhura_plan::{Bounded, Name, Price};
+use uhura_plan::{Bounded, Name, Price, Second};
 
 /// The line of the command that a line gives, and nothing where it gives none.
 fn written(rt: HostRuntime, line: &[u8]) -> Result<Vec<u8>, Fail> {
@@ -42,6 +42,8 @@ fn takes_each_form(rt: HostRuntime) -> Result<(), Fail> {
         "uncertain drive leave home 20 35 lower 3",
         "uncertain drive leave home 20 35 upper 4",
         "uncertain drive leave home 0 1000000000 lower 1 upper 1000000",
+        "uncertain drive leave home 20 35 lower 3 past 1 4 upper 999999 past 1000000000 1000000",
+        "uncertain past past past 20 35",
         "choice way train 5",
         "choice way train 0 car 1000000000",
         "choice way train 5 car 7 when day sunny mood good",
@@ -54,12 +56,17 @@ fn takes_each_form(rt: HostRuntime) -> Result<(), Fail> {
         "require r a b 0 5 lower 1 upper 2",
         "require r a b 0 5 lower 1 0 upper 1000000 1000000000 when c x d y",
         "require r a b 0 5 lower 1 when c x",
+        "require r a b 0 5 lower 3 past 2 4 upper 3 past 2 4",
+        "require r a b 0 5 lower 3 past 2 4 7 upper 3 past 2 4 7 when past past",
         "require r a b 0 5 when c x",
         "drop r",
         "bound r lower -",
         "bound r upper -7",
         "price require r lower 3",
         "price require r upper 3 7",
+        "price require r upper 3 past 2 4",
+        "price require r upper 3 past 2 4 7",
+        "price uncertain past lower 3 past 2 4",
         "price require r upper -",
         "price uncertain drive lower 3",
         "price uncertain drive upper -",
@@ -121,12 +128,13 @@ fn is_requirement(
 
 #[test]
 fn takes_each_part(rt: HostRuntime) -> Result<(), Fail> {
-    let command = parse(rt.alloc(), b"require r a b -5 - lower 2 9 upper 3 when c x")?;
+    let command = parse(rt.alloc(), b"require r a b -5 - lower 2 past 4 5 9 upper 3 when c x")?;
     let command = command.ok_or("a command")?;
     let lower = Bounded {
         bound: Some(-5),
         price: Some(Price {
             rate: 2,
+            second: Some(Second { after: 4, rate: 5 }),
             most: Some(9),
         }),
     };
@@ -134,6 +142,7 @@ fn takes_each_part(rt: HostRuntime) -> Result<(), Fail> {
         bound: None,
         price: Some(Price {
             rate: 3,
+            second: None,
             most: None,
         }),
     };
@@ -181,6 +190,9 @@ fn tells_forms(rt: HostRuntime) {
         "uncertain d a b 1 2 upper 1 lower 1",
         "uncertain d a b 1 2 lower 1 2",
         "uncertain d a b 1 2 lower 1 when 2",
+        "uncertain d a b 1 2 lower 2 past",
+        "uncertain d a b 1 2 lower 2 past 3",
+        "uncertain d a b 1 2 lower 2 past 3 4 5",
         "choice c",
         "choice c a",
         "choice c a 1 b",
@@ -195,6 +207,9 @@ fn tells_forms(rt: HostRuntime) {
         "require r a b 1 2 upper",
         "require r a b 1 2 upper 3 4 lower 5",
         "require r a b 1 2 later 3",
+        "require r a b 1 2 lower 2 past",
+        "require r a b 1 2 lower 2 past 3",
+        "require r a b 1 2 lower 2 past 3 4 5 6",
         "require r a b 1 2 when",
         "require r a b 1 2 upper 3 when c",
         "drop",
@@ -204,6 +219,11 @@ fn tells_forms(rt: HostRuntime) {
         "price r lower 3",
         "price require r lower",
         "price require r upper 1 2 3",
+        "price require r upper 2 past",
+        "price require r upper 2 past 3",
+        "price require r upper 2 past 3 4 5 6",
+        "price require r upper - past",
+        "price uncertain d lower 2 past 3",
         "price uncertain d lower 1 2",
         "price uncertain d middle 1",
         "range d 1",
@@ -242,6 +262,17 @@ fn tells_numbers(rt: HostRuntime) {
         "require r a b 0 5 lower upper 3",
         "require r a b 0 5 upper 3 lower",
         "require r a b 0 5 upper 3 1000000001",
+        "require r a b 0 5 lower 2 past upper 4",
+        "require r a b 0 5 lower 2 past 0 4",
+        "require r a b 0 5 lower 2 past 1000000001 4",
+        "require r a b 0 5 lower 2 past 3 2",
+        "require r a b 0 5 lower 2 past 3 1000001",
+        "require r a b 0 5 lower 2 past 3 4 past",
+        "require r a b 0 5 lower past 3",
+        "uncertain d a b 1 2 upper 4 past 5 4",
+        "price require r upper - past 3 4",
+        "price require r upper 2 past 3 -",
+        "price uncertain d lower - past 3 4",
         "bound r lower +1",
         "bound r upper --",
         "price require r upper - 5",

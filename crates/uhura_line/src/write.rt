@@ -3,13 +3,13 @@ ghost use Rattle.std.specs.Prelude.{◌≡◌, ℕ, ◌++◌, [], ◌∷◌, pos
 ghost use Rattle.uhura_text.specs.Number.{spelling};
 ghost use Rattle.uhura_plan.specs.declared.key.Side.TheVariants.{Lower, Upper};
 ghost use Rattle.uhura_line.specs.Form as grammar;
-ghost use Rattle.uhura_line.specs.Form.{words_of, pair_words, guard_words, priced_words, price_words, set_words, rate_words, set_rate_words, side_word, kind_word};
-ghost use Rattle.uhura_line.specs.Reads.{form_of, bound_word, count_word, priced_of, alternative_pairs, kind_of, name_of, IsCommand};
+ghost use Rattle.uhura_line.specs.Form.{words_of, optional, pair_words, guard_words, past_words, rated_words, priced_words, price_words, set_words, rate_words, side_word, kind_word};
+ghost use Rattle.uhura_line.specs.Reads.{form_of, bound_word, count_word, past_of, rated_of, priced_of, alternative_pairs, kind_of, name_of, IsCommand};
 ghost use Rattle.uhura_line.specs.Written.{line_of, joined, spaced, IsLineOf};
 
 use crate::{Command, ItemName, Literals};
 use std::alloc::AllocError;
-use uhura_plan::{Alternatives, Bounded, Name, Price, Side};
+use uhura_plan::{Alternatives, Bounded, Name, Price, Rate, Second, Side};
 use uhura_text::put_number;
 
 /// Appends a space and the word.
@@ -55,18 +55,48 @@ fn put_side(line: &mut Vec<u8>, side: Side) -> Result<(), AllocError>
     }
 }
 
-/// Appends PRICE and, where it is there, MAX.
-fn put_priced(line: &mut Vec<u8>, price: Price) -> Result<(), AllocError>
-    ensures { IfOk result (λ _. line.new.items ≡ line.old.items ++ spaced (priced_words (priced_of price))) }
+/// Appends `past`, UNITS and PRICE of a second price, or nothing.
+fn put_second(line: &mut Vec<u8>, second: Option<Second>) -> Result<(), AllocError>
+    ensures { IfOk result (λ _. line.new.items ≡ line.old.items ++ spaced (past_words (option_map past_of second))) }
 {
-    put_count(line, price.rate)?;
-    match price.most {
+    match second {
+        Some(second) => {
+            put_word(line, b"past")?;
+            put_count(line, second.after)?;
+            put_count(line, second.rate)
+        }
+        None => Ok(()),
+    }
+}
+
+/// Appends RATE.
+fn put_rated(line: &mut Vec<u8>, rate: Rate) -> Result<(), AllocError>
+    ensures { IfOk result (λ _. line.new.items ≡ line.old.items ++ spaced (rated_words (rated_of rate))) }
+{
+    put_count(line, rate.first)?;
+    put_second(line, rate.second)
+}
+
+/// Appends MAX, or nothing.
+fn put_most(line: &mut Vec<u8>, most: Option<u32>) -> Result<(), AllocError>
+    ensures { IfOk result (λ _. line.new.items ≡ line.old.items ++ spaced (optional (option_map count_word most))) }
+{
+    match most {
         Some(most) => put_count(line, most),
         None => Ok(()),
     }
 }
 
-/// Appends a side with its PRICE and MAX, or nothing.
+/// Appends RATE and, where it is there, MAX.
+#[tactic(auto, using(crate::proofs::Spacing::spacing))]
+fn put_priced(line: &mut Vec<u8>, price: Price) -> Result<(), AllocError>
+    ensures { IfOk result (λ _. line.new.items ≡ line.old.items ++ spaced (priced_words (priced_of price))) }
+{
+    put_rated(line, price.per_unit())?;
+    put_most(line, price.most)
+}
+
+/// Appends a side with its RATE and MAX, or nothing.
 fn put_price(line: &mut Vec<u8>, side: Side, price: Option<Price>) -> Result<(), AllocError>
     ensures { IfOk result (λ _. line.new.items ≡ line.old.items ++ spaced (price_words side (option_map priced_of price))) }
 {
@@ -79,14 +109,14 @@ fn put_price(line: &mut Vec<u8>, side: Side, price: Option<Price>) -> Result<(),
     }
 }
 
-/// Appends a side with its PRICE, or nothing.
-fn put_rate(line: &mut Vec<u8>, side: Side, rate: Option<u32>) -> Result<(), AllocError>
-    ensures { IfOk result (λ _. line.new.items ≡ line.old.items ++ spaced (rate_words side (option_map count_word rate))) }
+/// Appends a side with its RATE, or nothing.
+fn put_rate(line: &mut Vec<u8>, side: Side, rate: Option<Rate>) -> Result<(), AllocError>
+    ensures { IfOk result (λ _. line.new.items ≡ line.old.items ++ spaced (rate_words side (option_map rated_of rate))) }
 {
     match rate {
         Some(rate) => {
             put_side(line, side)?;
-            put_count(line, rate)
+            put_rated(line, rate)
         }
         None => Ok(()),
     }
@@ -143,7 +173,7 @@ fn put_alternatives(line: &mut Vec<u8>, alternatives: &[(Name, u32)]) -> Result<
 
 /// Appends a price that is set, or `-` for one that is taken away.
 fn put_set_price(line: &mut Vec<u8>, price: Option<Price>) -> Result<(), AllocError>
-    ensures { IfOk result (λ _. line.new.items ≡ line.old.items ++ spaced (set_words (option_map priced_of price))) }
+    ensures { IfOk result (λ _. line.new.items ≡ line.old.items ++ spaced (set_words priced_words (option_map priced_of price))) }
 {
     match price {
         Some(price) => put_priced(line, price),
@@ -152,11 +182,11 @@ fn put_set_price(line: &mut Vec<u8>, price: Option<Price>) -> Result<(), AllocEr
 }
 
 /// Appends a price that is set, or `-` for one that is taken away.
-fn put_set_rate(line: &mut Vec<u8>, rate: Option<u32>) -> Result<(), AllocError>
-    ensures { IfOk result (λ _. line.new.items ≡ line.old.items ++ spaced (set_rate_words (option_map count_word rate))) }
+fn put_set_rate(line: &mut Vec<u8>, rate: Option<Rate>) -> Result<(), AllocError>
+    ensures { IfOk result (λ _. line.new.items ≡ line.old.items ++ spaced (set_words rated_words (option_map rated_of rate))) }
 {
     match rate {
-        Some(rate) => put_count(line, rate),
+        Some(rate) => put_rated(line, rate),
         None => put_word(line, b"-"),
     }
 }
@@ -203,8 +233,8 @@ fn put_bounds(line: &mut Vec<u8>, lower: Option<i64>, upper: Option<i64>) -> Res
 
 /// Appends the sides of a duration that have a price.
 #[tactic(auto, using(crate::proofs::Spacing::spacing))]
-fn put_rates(line: &mut Vec<u8>, lower: Option<u32>, upper: Option<u32>) -> Result<(), AllocError>
-    ensures { IfOk result (λ _. line.new.items ≡ line.old.items ++ spaced (rate_words Lower (option_map count_word lower) ++ rate_words Upper (option_map count_word upper))) }
+fn put_rates(line: &mut Vec<u8>, lower: Option<Rate>, upper: Option<Rate>) -> Result<(), AllocError>
+    ensures { IfOk result (λ _. line.new.items ≡ line.old.items ++ spaced (rate_words Lower (option_map rated_of lower) ++ rate_words Upper (option_map rated_of upper))) }
 {
     put_rate(line, Side::Lower, lower)?;
     put_rate(line, Side::Upper, upper)
@@ -305,9 +335,9 @@ fn put_rate_of(
     line: &mut Vec<u8>,
     name: Name,
     side: Side,
-    rate: Option<u32>,
+    rate: Option<Rate>,
 ) -> Result<(), AllocError>
-    ensures { IfOk result (λ _. line.new.items ≡ line.old.items ++ joined (words_of (grammar.rate name side (option_map count_word rate)))) }
+    ensures { IfOk result (λ _. line.new.items ≡ line.old.items ++ joined (words_of (grammar.rate name side (option_map rated_of rate)))) }
 {
     put_price_at(line, ItemName::Uncertain(name), side)?;
     put_set_rate(line, rate)
@@ -376,9 +406,9 @@ fn put_choice(
 fn put_ranged(
     line: &mut Vec<u8>,
     range: (i64, i64),
-    rates: (Option<u32>, Option<u32>),
+    rates: (Option<Rate>, Option<Rate>),
 ) -> Result<(), AllocError>
-    ensures { IfOk result (λ _. line.new.items ≡ line.old.items ++ spaced (spelling range.0 ∷ spelling range.1 ∷ rate_words Lower (option_map count_word rates.0) ++ rate_words Upper (option_map count_word rates.1))) }
+    ensures { IfOk result (λ _. line.new.items ≡ line.old.items ++ spaced (spelling range.0 ∷ spelling range.1 ∷ rate_words Lower (option_map rated_of rates.0) ++ rate_words Upper (option_map rated_of rates.1))) }
 {
     put_range(line, range.0, range.1)?;
     put_rates(line, rates.0, rates.1)
@@ -390,9 +420,9 @@ fn put_uncertain(
     name: Name,
     ends: (Name, Name),
     range: (i64, i64),
-    rates: (Option<u32>, Option<u32>),
+    rates: (Option<Rate>, Option<Rate>),
 ) -> Result<(), AllocError>
-    ensures { IfOk result (λ _. line.new.items ≡ line.old.items ++ joined (words_of (grammar.uncertain name ends.0 ends.1 (spelling range.0) (spelling range.1) (option_map count_word rates.0) (option_map count_word rates.1)))) }
+    ensures { IfOk result (λ _. line.new.items ≡ line.old.items ++ joined (words_of (grammar.uncertain name ends.0 ends.1 (spelling range.0) (spelling range.1) (option_map rated_of rates.0) (option_map rated_of rates.1)))) }
 {
     put_between(line, b"uncertain", name, ends)?;
     put_ranged(line, range, rates)
@@ -595,9 +625,12 @@ mod tests {
                 Command::Rate {
                     name: n,
                     side: Side::Upper,
-                    rate: Some(4),
+                    rate: Some(Rate {
+                        first: 4,
+                        second: Some(Second { after: 1, rate: 5 }),
+                    }),
                 },
-                "price uncertain n upper 4\n",
+                "price uncertain n upper 4 past 1 5\n",
             ),
             (
                 Command::Rate {
@@ -656,6 +689,7 @@ mod tests {
             bound: Some(-1),
             price: Some(Price {
                 rate: 2,
+                second: Some(Second { after: 4, rate: 5 }),
                 most: Some(9),
             }),
         };
@@ -663,6 +697,7 @@ mod tests {
             bound: None,
             price: Some(Price {
                 rate: 3,
+                second: None,
                 most: None,
             }),
         };
@@ -674,8 +709,14 @@ mod tests {
                     end: b,
                     lower: 2,
                     upper: 60,
-                    lower_rate: Some(1),
-                    upper_rate: Some(1000000),
+                    lower_rate: Some(Rate {
+                        first: 1,
+                        second: None,
+                    }),
+                    upper_rate: Some(Rate {
+                        first: 1000000,
+                        second: None,
+                    }),
                 },
                 "uncertain n a b_1 2 60 lower 1 upper 1000000\n",
             ),
@@ -699,7 +740,7 @@ mod tests {
                     upper,
                     guard: literals(rt, &[(b, a), (a, n)])?,
                 },
-                "require n a b_1 -1 - lower 2 9 upper 3 when b_1 a a n\n",
+                "require n a b_1 -1 - lower 2 past 4 5 9 upper 3 when b_1 a a n\n",
             ),
             (
                 Command::Require {

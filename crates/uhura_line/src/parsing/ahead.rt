@@ -1,6 +1,6 @@
 //! The words of a line with the next one in sight.
 ghost use Rattle.std.specs.Prelude.{◌≡◌, ◌∷◌, [], Bool, true, false, IfSome, IfNone};
-ghost use Rattle.uhura_line.specs.Tails.{begins_with};
+ghost use Rattle.uhura_line.specs.Reader.{begins_with};
 
 use std::marker::Model;
 use uhura_text::Words;

@@ -1,8 +1,8 @@
 //! The verb `cap`.
-ghost use Rattle.std.specs.Prelude.{◌≡◌, ◌∷◌, codes};
-ghost use Rattle.uhura_line.specs.Parses.{ParsesWords};
+ghost use Rattle.uhura_line.specs.Reader.{cap_in};
+ghost use Rattle.uhura_line.specs.Parses.{ParsesAs};
 
-use super::count::five;
+use super::count::{is_end, next_five};
 use super::kind::ItemKind;
 use super::places::{amount, side};
 use super::several::two_names;
@@ -10,11 +10,10 @@ use crate::{Command, LineRefusal};
 use uhura_text::Words;
 
 /// `cap V require N SIDE UNITS` and `cap V uncertain N SIDE UNITS`, from the words behind the verb.
-#[tactic(auto, using(crate::proofs::CapLemmas::caps))]
-pub(crate) fn cap(words: Words<'_>) -> Result<Command, LineRefusal>
-    ensures { ParsesWords (codes "cap" ∷ words.entry) result }
+pub(crate) fn cap(mut words: Words<'_>) -> Result<Command, LineRefusal>
+    ensures { ParsesAs (cap_in words.entry) result }
 {
-    let Some((veto, kind, item, side_word, units)) = five(words) else {
+    let Some((veto, kind, item, side_word, units)) = next_five(&mut words) else {
         return Err(LineRefusal::Form);
     };
     let Some(kind) = ItemKind::read(kind) else {
@@ -23,6 +22,9 @@ pub(crate) fn cap(words: Words<'_>) -> Result<Command, LineRefusal>
     let Some(side) = side(side_word) else {
         return Err(LineRefusal::Form);
     };
+    if !is_end(words) {
+        return Err(LineRefusal::Form);
+    }
     let Some(units) = amount(units) else {
         return Err(LineRefusal::Number);
     };

@@ -1,10 +1,10 @@
 //! The verb `choice`.
-ghost use Rattle.std.specs.Prelude.{◌≡◌, ◌∷◌, ℕ, List, codes};
-ghost use Rattle.uhura_line.specs.Form.{IsForm};
+ghost use Rattle.std.specs.Prelude.{ℕ, List};
 ghost use Rattle.uhura_line.specs.Form as grammar;
 ghost use Rattle.uhura_line.specs.Pairs.{HoldsPairs};
 ghost use Rattle.uhura_line.specs.Costed.{HoldsCosted};
-ghost use Rattle.uhura_line.specs.Parses.{ParsesWords};
+ghost use Rattle.uhura_line.specs.Reader.{choice_in};
+ghost use Rattle.uhura_line.specs.Parses.{ParsesForm, ParsesAs};
 
 use super::ahead::Ahead;
 use super::costed::{Costed, read_alternatives};
@@ -17,9 +17,9 @@ use uhura_plan::Alternatives;
 use uhura_text::Words;
 
 /// The choice of what was read, or why it is none.
-#[tactic(auto, using(crate::proofs::ChoiceLemmas::made))]
 fn made(word: &[u8], alternatives: Costed, guard: Pairs) -> Result<Command, LineRefusal>
-    ensures { (line : List (List ℕ)) (a g : List (List ℕ × List ℕ)) → IsForm line (grammar.choice word.now a g) → HoldsCosted alternatives a → HoldsPairs guard g → ParsesWords line result }
+    ensures { (a g : List (List ℕ × List ℕ)) → HoldsCosted alternatives a → HoldsPairs guard g
+        → ParsesForm (grammar.choice word.now a g) result }
 {
     match alternatives {
         Costed::NotNumbers => Err(LineRefusal::Number),
@@ -48,9 +48,8 @@ fn made(word: &[u8], alternatives: Costed, guard: Pairs) -> Result<Command, Line
 }
 
 /// `choice N A COST .. [when C A ..]`, from the words behind the verb.
-#[tactic(auto, using(crate::proofs::ChoiceLemmas::choices))]
 pub(crate) fn choice(alloc: Global, mut words: Words<'_>) -> Result<Command, LineRefusal>
-    ensures { ParsesWords (codes "choice" ∷ words.entry) result }
+    ensures { ParsesAs (choice_in words.entry) result }
 {
     let Some(word) = words.next() else {
         return Err(LineRefusal::Form);

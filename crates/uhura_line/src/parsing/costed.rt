@@ -3,7 +3,7 @@ ghost use Rattle.std.specs.Prelude.{◌≡◌, ◌∷◌, ◌++◌, [], ℕ, Lis
 ghost use Rattle.std.specs.List.{list_all};
 ghost use Rattle.uhura_plan.specs.Name.{is_name};
 ghost use Rattle.uhura_line.specs.Reads.{is_amount, alternative_pairs, count_word};
-ghost use Rattle.uhura_line.specs.Tails.{alternatives_of};
+ghost use Rattle.uhura_line.specs.Reader.{alternatives_of};
 ghost use Rattle.uhura_line.specs.Costed.{HoldsCosted, ReadsCosted};
 
 use super::ahead::Ahead;

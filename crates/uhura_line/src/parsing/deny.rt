@@ -1,6 +1,6 @@
 //! The verb `deny`.
-ghost use Rattle.std.specs.Prelude.{◌≡◌, ◌∷◌, codes};
-ghost use Rattle.uhura_line.specs.Parses.{ParsesWords};
+ghost use Rattle.uhura_line.specs.Reader.{deny_in};
+ghost use Rattle.uhura_line.specs.Parses.{ParsesAs};
 
 use super::ahead::Ahead;
 use super::pairs::{Pairs, read_pairs};
@@ -10,9 +10,8 @@ use std::alloc::Global;
 use uhura_text::Words;
 
 /// `deny V C A ..`, from the words behind the verb.
-#[tactic(auto, using(crate::proofs::DenyLemmas::denials))]
 pub(crate) fn deny(alloc: Global, mut words: Words<'_>) -> Result<Command, LineRefusal>
-    ensures { ParsesWords (codes "deny" ∷ words.entry) result }
+    ensures { ParsesAs (deny_in words.entry) result }
 {
     let Some(word) = words.next() else {
         return Err(LineRefusal::Form);

@@ -1,7 +1,6 @@
 //! The words of a line, by their verb.
-ghost use Rattle.std.specs.Prelude.{◌≡◌, ◌∷◌};
-ghost use Rattle.uhura_line.specs.Parses.{ParsesWords};
-ghost use Rattle.uhura_line.specs.Verbs.{verb_word};
+ghost use Rattle.uhura_line.specs.Parses.{ParsesWords, ParsesAs};
+ghost use Rattle.uhura_line.specs.Verbs.{form_behind};
 
 use super::cap::cap;
 use super::choice::choice;
@@ -18,7 +17,7 @@ use uhura_text::Words;
 
 /// The command of a verb and the words behind it.
 fn by_verb(alloc: Global, verb: Verb, words: Words<'_>) -> Result<Command, LineRefusal>
-    ensures { ParsesWords (verb_word verb ∷ words.entry) result }
+    ensures { ParsesAs (form_behind verb words.entry) result }
 {
     match verb {
         Verb::Event => event(words),

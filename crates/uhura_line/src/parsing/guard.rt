@@ -1,6 +1,6 @@
 //! The guard at the end of a line, which may be missing.
 ghost use Rattle.std.specs.Prelude.{◌≡◌, None, IfSome, IfNone};
-ghost use Rattle.uhura_line.specs.Tails.{guard_of};
+ghost use Rattle.uhura_line.specs.Reader.{guard_of};
 ghost use Rattle.uhura_line.specs.Pairs.{ReadsGuard};
 
 use super::ahead::Ahead;

@@ -1,6 +1,6 @@
 //! The words `require` and `uncertain` before a name.
-ghost use Rattle.std.specs.Prelude.{◌≡◌, true, false, IfSome, IfNone, bytes_eq, codes};
-ghost use Rattle.uhura_line.specs.Form.{kind_word};
+ghost use Rattle.std.specs.Prelude.{◌≡◌, option_map};
+ghost use Rattle.uhura_line.specs.Reader.{kind_in};
 ghost use Rattle.uhura_line.specs.Kinds.{kind_said};
 ghost use Rattle.uhura_line.specs.Reads.{kind_of, name_of};
 
@@ -17,9 +17,7 @@ pub(crate) enum ItemKind {
 impl ItemKind {
     /// The kind that a word says.
     pub(crate) fn read(word: &[u8]) -> Option<ItemKind>
-        ensures require { IfNone result (bytes_eq word.now (codes "require") ≡ false) }
-        ensures uncertain { IfNone result (bytes_eq word.now (codes "uncertain") ≡ false) }
-        ensures some { IfSome result (λ kind. word.now ≡ kind_word (kind_said kind)) }
+        ensures { option_map kind_said result ≡ kind_in word.now }
     {
         if word == b"require".as_slice() {
             return Some(ItemKind::Require);

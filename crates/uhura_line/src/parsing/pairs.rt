@@ -1,7 +1,7 @@
 //! Pairs of a choice and an alternative, at the end of a line.
 ghost use Rattle.std.specs.Prelude.{◌≡◌, ◌∷◌, ◌++◌, [], ℕ, List, None, true, IfSome, IfNone};
 ghost use Rattle.uhura_line.specs.Reads.{are_names};
-ghost use Rattle.uhura_line.specs.Tails.{pairs_of};
+ghost use Rattle.uhura_line.specs.Reader.{pairs_of};
 ghost use Rattle.uhura_line.specs.Pairs.{HoldsPairs, ReadsPairs};
 
 use super::ahead::Ahead;

@@ -1,9 +1,9 @@
 //! What the words at the places of a form stand for: names, numbers and sides.
-ghost use Rattle.std.specs.Prelude.{◌≡◌, ℕ, ◌≤◌, ◌≤ℤ◌, pos, negsuc, true, false, IfSome, IfNone, bytes_eq, codes};
+ghost use Rattle.std.specs.Prelude.{◌≡◌, ℕ, ◌≤◌, ◌≤ℤ◌, pos, negsuc, true, false, IfSome, IfNone};
 ghost use Rattle.uhura_text.specs.Number.{spelling};
 ghost use Rattle.uhura_plan.specs.Name.{is_name};
-ghost use Rattle.uhura_line.specs.Form.{side_word};
-ghost use Rattle.uhura_line.specs.Reads.{is_number, is_bound, is_rate, is_amount, bound_word, count_word};
+ghost use Rattle.uhura_line.specs.Reads.{is_number, is_bound, is_first, is_units, is_above, is_amount, bound_word, count_word};
+ghost use Rattle.uhura_line.specs.Reader.{side_in};
 
 use uhura_plan::{Name, Side};
 use uhura_text::number;
@@ -40,13 +40,37 @@ fn within(word: &[u8], least: i64, greatest: i64) -> Option<i64>
     }
 }
 
-/// The rate that a word writes.
-pub(crate) fn rate(word: &[u8]) -> Option<u32>
-    ensures none { IfNone result (is_rate word.now ≡ false) }
+/// The first price that a word writes.
+pub(crate) fn first_price(word: &[u8]) -> Option<u32>
+    ensures none { IfNone result (is_first word.now ≡ false) }
     ensures some { IfSome result (λ n. word.now ≡ count_word n) }
-    ensures good { IfSome result (λ n. is_rate (count_word n) ≡ true) }
+    ensures good { IfSome result (λ n. is_first (count_word n) ≡ true) }
 {
     match within(word, 1, 1_000_000) {
+        Some(value) => Some(value as u32),
+        None => None,
+    }
+}
+
+/// The units that a word writes, which a first price covers.
+pub(crate) fn units(word: &[u8]) -> Option<u32>
+    ensures none { IfNone result (is_units word.now ≡ false) }
+    ensures some { IfSome result (λ n. word.now ≡ count_word n) }
+    ensures good { IfSome result (λ n. is_units (count_word n) ≡ true) }
+{
+    match within(word, 1, 1_000_000_000) {
+        Some(value) => Some(value as u32),
+        None => None,
+    }
+}
+
+/// The second price that a word writes, above the first.
+pub(crate) fn price_above(first: u32, word: &[u8]) -> Option<u32>
+    ensures none { IfNone result (is_above first word.now ≡ false) }
+    ensures some { IfSome result (λ n. word.now ≡ count_word n) }
+    ensures good { IfSome result (λ n. is_above first (count_word n) ≡ true) }
+{
+    match within(word, i64::from(first) + 1, 1_000_000) {
         Some(value) => Some(value as u32),
         None => None,
     }
@@ -90,9 +114,7 @@ pub(crate) fn bound(word: &[u8]) -> Option<Option<i64>>
 
 /// The side that a word names.
 pub(crate) fn side(word: &[u8]) -> Option<Side>
-    ensures lower { IfNone result (bytes_eq word.now (codes "lower") ≡ false) }
-    ensures upper { IfNone result (bytes_eq word.now (codes "upper") ≡ false) }
-    ensures some { IfSome result (λ side. word.now ≡ side_word side) }
+    ensures { result ≡ side_in word.now }
 {
     if word == b"lower".as_slice() {
         return Some(Side::Lower);

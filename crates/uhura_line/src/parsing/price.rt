@@ -1,66 +1,60 @@
 //! The verb `price`.
-ghost use Rattle.std.specs.Prelude.{◌≡◌, ◌∷◌, [], true, false, Some, IfSome, IfNone, option_map, codes};
-ghost use Rattle.std.specs.Option.{option_map_or};
-ghost use Rattle.uhura_line.specs.Form.{priced_words, set_words, set_rate_words, IsSetPrice, IsSetRate};
-ghost use Rattle.uhura_line.specs.Reads.{is_priced, is_rate, if_there, priced_of, count_word};
-ghost use Rattle.uhura_line.specs.Parses.{ParsesWords};
+ghost use Rattle.std.specs.Prelude.{◌≡◌, []};
+ghost use Rattle.uhura_line.specs.Form as grammar;
+ghost use Rattle.uhura_line.specs.Form.{is_dash_rate, is_dash_price};
+ghost use Rattle.uhura_line.specs.Reader.{rated_part, priced_part, set_in, set_of_kind, price_in};
+ghost use Rattle.uhura_line.specs.Kinds.{kind_said};
+ghost use Rattle.uhura_line.specs.Parses.{ParsesForm, ParsesAs};
 
-use super::count::{three, three_or_four};
+use super::ahead::Ahead;
+use super::count::next_three;
 use super::kind::ItemKind;
-use super::places::{name, rate, side};
-use super::priced::{PricedWords, price as price_of};
+use super::places::{name, side};
+use super::priced::{PricedWords, set_words, side_price};
+use super::rates::{RatedWords, rated_words, side_rate};
 use crate::{Command, LineRefusal};
-use uhura_plan::Price;
+use uhura_plan::Side;
 use uhura_text::Words;
 
-/// The price that is set, or none for `-`.
-#[tactic(auto, using(crate::proofs::PriceLemmas::sets))]
-fn set_price(words: &PricedWords<'_>) -> Option<Option<Price>>
-    ensures set { IfNone result (IsSetPrice (Some words.now)) }
-    ensures none { IfNone result (is_priced words.now ≡ false) }
-    ensures some { IfSome result (λ price. priced_words words.now ≡ set_words (option_map priced_of price)) }
-    ensures taken { IfSome result (λ price. IsSetPrice (option_map priced_of price)) }
-    ensures good { IfSome result (λ price. option_map_or is_priced (option_map priced_of price) true ≡ true) }
+/// The words of the price that is set, or none for `-`.
+fn set_price<'a>(mut words: Ahead<'a>) -> Option<Option<PricedWords<'a>>>
+    ensures { set_in is_dash_price (priced_part []) words.entry ≡ result }
 {
-    if words.most.is_none() && words.rate == b"-".as_slice() {
-        return Some(None);
+    let price = set_words(&mut words)?;
+    if !words.is_end() {
+        return None;
     }
-    match price_of(words) {
-        Some(price) => Some(Some(price)),
-        None => None,
+    if price.is_dash() {
+        Some(None)
+    } else {
+        Some(Some(price))
     }
 }
 
-/// The rate that is set, or none for `-`.
-#[tactic(auto, using(crate::proofs::PriceLemmas::sets))]
-fn set_rate(word: &[u8]) -> Option<Option<u32>>
-    ensures set { IfNone result (IsSetRate (Some word.now)) }
-    ensures none { IfNone result (is_rate word.now ≡ false) }
-    ensures some { IfSome result (λ rate. word.now ∷ [] ≡ set_rate_words (option_map count_word rate)) }
-    ensures taken { IfSome result (λ rate. IsSetRate (option_map count_word rate)) }
-    ensures good { IfSome result (λ rate. if_there is_rate (option_map count_word rate) ≡ true) }
+/// The words of the rate that is set, or none for `-`.
+fn set_rate<'a>(mut words: Ahead<'a>) -> Option<Option<RatedWords<'a>>>
+    ensures { set_in is_dash_rate rated_part words.entry ≡ result }
 {
-    if word == b"-".as_slice() {
-        return Some(None);
+    let rate = rated_words(&mut words)?;
+    if !words.is_end() {
+        return None;
     }
-    match rate(word) {
-        Some(rate) => Some(Some(rate)),
-        None => None,
+    if rate.is_dash() {
+        Some(None)
+    } else {
+        Some(Some(rate))
     }
 }
 
-/// `price require N SIDE PRICE [MAX]` and `price require N SIDE -`, from the words behind `require`.
-#[tactic(auto, using(crate::proofs::PriceLemmas::prices))]
-fn requirement(words: Words<'_>) -> Result<Command, LineRefusal>
-    ensures { ParsesWords (codes "price" ∷ codes "require" ∷ words.entry) result }
+/// The command that sets these words as a price, or why it is none.
+fn price_set(
+    word: &[u8],
+    side: Side,
+    words: &Option<PricedWords<'_>>,
+) -> Result<Command, LineRefusal>
+    ensures { ParsesForm (grammar.price word.now side words.now) result }
 {
-    let Some((word, side_word, price_words)) = three_or_four(words) else {
-        return Err(LineRefusal::Form);
-    };
-    let Some(side) = side(side_word) else {
-        return Err(LineRefusal::Form);
-    };
-    let Some(price) = set_price(&price_words) else {
+    let Some(price) = side_price(words) else {
         return Err(LineRefusal::Number);
     };
     match name(word) {
@@ -69,18 +63,15 @@ fn requirement(words: Words<'_>) -> Result<Command, LineRefusal>
     }
 }
 
-/// `price uncertain N SIDE PRICE` and `price uncertain N SIDE -`, from the words behind `uncertain`.
-#[tactic(auto, using(crate::proofs::PriceLemmas::rates))]
-fn duration(words: Words<'_>) -> Result<Command, LineRefusal>
-    ensures { ParsesWords (codes "price" ∷ codes "uncertain" ∷ words.entry) result }
+/// The command that sets these words as a rate, or why it is none.
+fn rate_set(
+    word: &[u8],
+    side: Side,
+    words: &Option<RatedWords<'_>>,
+) -> Result<Command, LineRefusal>
+    ensures { ParsesForm (grammar.rate word.now side words.now) result }
 {
-    let Some((word, side_word, rate_word)) = three(words) else {
-        return Err(LineRefusal::Form);
-    };
-    let Some(side) = side(side_word) else {
-        return Err(LineRefusal::Form);
-    };
-    let Some(rate) = set_rate(rate_word) else {
+    let Some(rate) = side_rate(words) else {
         return Err(LineRefusal::Number);
     };
     match name(word) {
@@ -89,17 +80,40 @@ fn duration(words: Words<'_>) -> Result<Command, LineRefusal>
     }
 }
 
-/// The forms of `price`, from the words behind the verb.
-#[tactic(auto, using(crate::proofs::PriceLemmas::kinds))]
-pub(crate) fn price(mut words: Words<'_>) -> Result<Command, LineRefusal>
-    ensures { ParsesWords (codes "price" ∷ words.entry) result }
+/// The command that sets what the words say on the side of a thing of this kind.
+fn set_on(
+    kind: ItemKind,
+    word: &[u8],
+    side: Side,
+    words: Ahead<'_>,
+) -> Result<Command, LineRefusal>
+    ensures { ParsesAs (set_of_kind (kind_said kind) word.now side words.entry) result }
 {
-    let Some(word) = words.next() else {
+    match kind {
+        ItemKind::Require => match set_price(words) {
+            Some(price) => price_set(word, side, &price),
+            None => Err(LineRefusal::Form),
+        },
+        ItemKind::Uncertain => match set_rate(words) {
+            Some(rate) => rate_set(word, side, &rate),
+            None => Err(LineRefusal::Form),
+        },
+    }
+}
+
+/// `price require N SIDE RATE [MAX]`, `price uncertain N SIDE RATE`, and each with `-` for what is set, from the words
+/// behind the verb.
+pub(crate) fn price(mut words: Words<'_>) -> Result<Command, LineRefusal>
+    ensures { ParsesAs (price_in words.entry) result }
+{
+    let Some((kind, name, side_word)) = next_three(&mut words) else {
         return Err(LineRefusal::Form);
     };
-    match ItemKind::read(word) {
-        Some(ItemKind::Require) => requirement(words),
-        Some(ItemKind::Uncertain) => duration(words),
+    let Some(kind) = ItemKind::read(kind) else {
+        return Err(LineRefusal::Form);
+    };
+    match side(side_word) {
+        Some(side) => set_on(kind, name, side, Ahead::new(words)),
         None => Err(LineRefusal::Form),
     }
 }

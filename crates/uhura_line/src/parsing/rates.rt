@@ -1,115 +1,143 @@
-//! The rates of a duration, which may be missing.
-ghost use Rattle.std.specs.Prelude.{◌≡◌, ◌∷◌, [], ◌&&◌, true, false, IfSome, IfNone, option_map};
-ghost use Rattle.uhura_line.specs.Reads.{if_there, is_rate, count_word};
-ghost use Rattle.uhura_line.specs.Tails.{rates_of};
+//! The words of a RATE, how they are found in a line, and what they stand for.
+ghost use Rattle.std.specs.Prelude.{◌≡◌, ◌&&◌, true, false, IfSome, IfNone, option_map};
+ghost use Rattle.uhura_line.specs.Form.{is_dash_rate};
+ghost use Rattle.uhura_line.specs.Reads.{if_there, is_first, is_units, is_above, is_past, is_rated, past_of, rated_of, count_word};
+ghost use Rattle.uhura_line.specs.Reader.{found, units_and_price, past_part, rated_part};
 
-use super::count::is_end;
-use super::places::rate;
+use super::ahead::Ahead;
+use super::places::{first_price, price_above, units};
 use std::marker::Model;
-use uhura_text::Words;
+use uhura_plan::{Rate, Second};
 
-/// The words of the lower and of the upper rate, where they are there.
+/// The words UNITS and PRICE of a second price.
 #[derive(Drop)]
-pub(crate) struct RateWords<'a> {
-    lower: Option<&'a [u8]>,
-    upper: Option<&'a [u8]>,
+pub(crate) struct PastWords<'a> {
+    units: &'a [u8],
+    price: &'a [u8],
 }
 
-impl<'a> Model for RateWords<'a> {
-    ghost use Rattle.std.specs.Prelude.{List, ℕ, Option, option_map};
+impl<'a> Model for PastWords<'a> {
+    ghost use Rattle.uhura_line.specs.Form.{Past};
 
-    ghost Value = { Option (List ℕ) × Option (List ℕ) };
+    ghost Value = { Past };
 
-    ghost view = { λ r. (option_map (λ word. word.now) r.lower, option_map (λ word. word.now) r.upper) };
+    ghost view = { λ p. record { units = p.units.now; price = p.price.now } };
 }
 
-/// The rates, where there are two words.
-fn one_rate<'a>(side: &'a [u8], word: &'a [u8]) -> Option<RateWords<'a>>
-    ensures { result ≡ rates_of (side.now ∷ word.now ∷ []) }
-{
-    if side == b"lower".as_slice() {
-        return Some(RateWords {
-            lower: Some(word),
-            upper: None,
-        });
-    }
-    if side == b"upper".as_slice() {
-        return Some(RateWords {
-            lower: None,
-            upper: Some(word),
-        });
-    }
-    None
+/// The word PRICE and, where they are there, the words of a second price.
+#[derive(Drop)]
+pub(crate) struct RatedWords<'a> {
+    first: &'a [u8],
+    second: Option<PastWords<'a>>,
 }
 
-/// The rates, where there are four words.
-fn both_rates<'a>(
-    side: &'a [u8],
-    word: &'a [u8],
-    other_side: &'a [u8],
-    other_word: &'a [u8],
-) -> Option<RateWords<'a>>
-    ensures { result ≡ rates_of (side.now ∷ word.now ∷ other_side.now ∷ other_word.now ∷ []) }
-{
-    if side == b"lower".as_slice() && other_side == b"upper".as_slice() {
-        Some(RateWords {
-            lower: Some(word),
-            upper: Some(other_word),
-        })
-    } else {
-        None
+impl<'a> Model for RatedWords<'a> {
+    ghost use Rattle.uhura_line.specs.Form.{Rated};
+
+    ghost Value = { Rated };
+
+    ghost view = { λ r. record { first = r.first.now; second = r.second } };
+}
+
+impl<'a> RatedWords<'a> {
+    /// Whether the words are `-` alone.
+    pub(crate) fn is_dash(&self) -> bool
+        ensures { result ≡ is_dash_rate self.now }
+    {
+        self.second.is_none() && self.first == b"-".as_slice()
     }
 }
 
-/// The rates, where the words are such.
-pub(crate) fn rate_words<'a>(mut words: Words<'a>) -> Option<RateWords<'a>>
-    ensures { result ≡ rates_of words.entry }
+/// The words UNITS and PRICE.
+fn units_and_price<'a>(words: &mut Ahead<'a>) -> Option<Option<PastWords<'a>>>
+    ensures { units_and_price words.old ≡ found result words.new }
 {
-    let Some(side) = words.next() else {
-        return Some(RateWords {
-            lower: None,
-            upper: None,
-        });
-    };
-    let word = words.next()?;
-    let Some(other_side) = words.next() else {
-        return one_rate(side, word);
-    };
-    let other_word = words.next()?;
-    if words.next().is_some() {
-        return None;
-    }
-    both_rates(side, word, other_side, other_word)
+    let units = words.next()?;
+    let price = words.next()?;
+    Some(Some(PastWords { units, price }))
 }
 
-/// The rate, where there is one.
-fn rate_there(word: Option<&[u8]>) -> Option<Option<u32>>
-    ensures none { IfNone result (if_there is_rate (option_map (λ w. w.now) word.entry) ≡ false) }
-    ensures some { IfSome result (λ rate. option_map (λ w. w.now) word.entry ≡ option_map count_word rate) }
-    ensures good { IfSome result (λ rate. if_there is_rate (option_map count_word rate) ≡ true) }
+/// The words of a second price, where the next word is `past`.
+fn past_words<'a>(words: &mut Ahead<'a>) -> Option<Option<PastWords<'a>>>
+    ensures { past_part words.old ≡ found result words.new }
 {
-    match word {
-        Some(word) => match rate(word) {
-            Some(rate) => Some(Some(rate)),
+    if !words.begins_with(b"past") {
+        return Some(None);
+    }
+    let _past = words.next()?;
+    units_and_price(words)
+}
+
+/// The words of a RATE.
+pub(crate) fn rated_words<'a>(words: &mut Ahead<'a>) -> Option<RatedWords<'a>>
+    ensures { rated_part words.old ≡ found result words.new }
+{
+    let first = words.next()?;
+    match past_words(words) {
+        Some(second) => Some(RatedWords { first, second }),
+        None => None,
+    }
+}
+
+/// The second price that the words write behind a first one.
+fn second(first: u32, words: &PastWords<'_>) -> Option<Second>
+    ensures none { IfNone result ((is_units words.now.units && is_above first words.now.price) ≡ false) }
+    ensures some { IfSome result (λ s. words.now ≡ past_of s) }
+    ensures units { IfSome result (λ s. is_units (count_word s.after) ≡ true) }
+    ensures above { IfSome result (λ s. is_above first (count_word s.rate) ≡ true) }
+{
+    match units(words.units) {
+        Some(after) => match price_above(first, words.price) {
+            Some(rate) => Some(Second { after, rate }),
+            None => None,
+        },
+        None => None,
+    }
+}
+
+/// The second price, where there is one.
+#[tactic(auto, using(crate::proofs::OneSpelling::firsts))]
+fn second_there(first: u32, words: &Option<PastWords<'_>>) -> Option<Option<Second>>
+    requires { is_first (count_word first) ≡ true }
+    ensures none { IfNone result (if_there (is_past (count_word first)) words.now ≡ false) }
+    ensures some { IfSome result (λ s. words.now ≡ option_map past_of s) }
+    ensures good { IfSome result (λ s. if_there (is_past (count_word first)) (option_map past_of s) ≡ true) }
+{
+    match words {
+        Some(words) => match second(first, words) {
+            Some(second) => Some(Some(second)),
             None => None,
         },
         None => Some(None),
     }
 }
 
-/// The two rates that the words write.
-pub(crate) fn two_rates(words: &RateWords<'_>) -> Option<(Option<u32>, Option<u32>)>
-    ensures none { IfNone result ((if_there is_rate words.now.0 && if_there is_rate words.now.1) ≡ false) }
-    ensures lower { IfSome result (λ r. words.now.0 ≡ option_map count_word r.0) }
-    ensures upper { IfSome result (λ r. words.now.1 ≡ option_map count_word r.1) }
-    ensures low { IfSome result (λ r. if_there is_rate (option_map count_word r.0) ≡ true) }
-    ensures high { IfSome result (λ r. if_there is_rate (option_map count_word r.1) ≡ true) }
+/// The rate that the words write.
+pub(crate) fn rate(words: &RatedWords<'_>) -> Option<Rate>
+    ensures none { IfNone result (is_rated words.now ≡ false) }
+    ensures some { IfSome result (λ rate. words.now ≡ rated_of rate) }
+    ensures good { IfSome result (λ rate. is_rated (rated_of rate) ≡ true) }
 {
-    match rate_there(words.lower) {
-        Some(lower) => match rate_there(words.upper) {
-            Some(upper) => Some((lower, upper)),
+    match first_price(words.first) {
+        Some(first) => match second_there(first, &words.second) {
+            Some(second) => Some(Rate { first, second }),
             None => None,
         },
         None => None,
+    }
+}
+
+/// The rate of a side, where its words are there.
+pub(crate) fn side_rate(words: &Option<RatedWords<'_>>) -> Option<Option<Rate>>
+    ensures none { IfNone result (if_there is_rated words.now ≡ false) }
+    ensures some { IfSome result (λ rate. words.now ≡ option_map rated_of rate) }
+    ensures good { IfSome result (λ rate. if_there is_rated (option_map rated_of rate) ≡ true) }
+{
+    match words {
+        Some(words) => match rate(words) {
+            Some(rate) => Some(Some(rate)),
+            None => None,
+        },
+        None => Some(None),
     }
 }

@@ -1,20 +1,23 @@
 //! The verbs that a name alone follows, and those that stand alone.
-ghost use Rattle.std.specs.Prelude.{◌≡◌, ◌∷◌, codes};
-ghost use Rattle.uhura_line.specs.Parses.{ParsesWords};
+ghost use Rattle.uhura_line.specs.Form as grammar;
+ghost use Rattle.uhura_line.specs.Reader.{bare_in, named_in};
+ghost use Rattle.uhura_line.specs.Parses.{ParsesAs};
 
-use super::count::{is_end, one};
+use super::count::is_end;
 use super::places::name;
 use crate::{Command, LineRefusal};
 use uhura_text::Words;
 
 /// `event N`, from the words behind the verb.
-#[tactic(auto, using(crate::proofs::SingleLemmas::events))]
-pub(crate) fn event(words: Words<'_>) -> Result<Command, LineRefusal>
-    ensures { ParsesWords (codes "event" ∷ words.entry) result }
+pub(crate) fn event(mut words: Words<'_>) -> Result<Command, LineRefusal>
+    ensures { ParsesAs (named_in grammar.event words.entry) result }
 {
-    let Some(word) = one(words) else {
+    let Some(word) = words.next() else {
         return Err(LineRefusal::Form);
     };
+    if !is_end(words) {
+        return Err(LineRefusal::Form);
+    }
     match name(word) {
         Some(name) => Ok(Command::Event { name }),
         None => Err(LineRefusal::Name),
@@ -22,13 +25,15 @@ pub(crate) fn event(words: Words<'_>) -> Result<Command, LineRefusal>
 }
 
 /// `drop N`, from the words behind the verb.
-#[tactic(auto, using(crate::proofs::SingleLemmas::drops))]
-pub(crate) fn drop(words: Words<'_>) -> Result<Command, LineRefusal>
-    ensures { ParsesWords (codes "drop" ∷ words.entry) result }
+pub(crate) fn drop(mut words: Words<'_>) -> Result<Command, LineRefusal>
+    ensures { ParsesAs (named_in grammar.drop words.entry) result }
 {
-    let Some(word) = one(words) else {
+    let Some(word) = words.next() else {
         return Err(LineRefusal::Form);
     };
+    if !is_end(words) {
+        return Err(LineRefusal::Form);
+    }
     match name(word) {
         Some(name) => Ok(Command::Drop { name }),
         None => Err(LineRefusal::Name),
@@ -36,13 +41,15 @@ pub(crate) fn drop(words: Words<'_>) -> Result<Command, LineRefusal>
 }
 
 /// `withdraw V`, from the words behind the verb.
-#[tactic(auto, using(crate::proofs::SingleLemmas::withdraws))]
-pub(crate) fn withdraw(words: Words<'_>) -> Result<Command, LineRefusal>
-    ensures { ParsesWords (codes "withdraw" ∷ words.entry) result }
+pub(crate) fn withdraw(mut words: Words<'_>) -> Result<Command, LineRefusal>
+    ensures { ParsesAs (named_in grammar.withdraw words.entry) result }
 {
-    let Some(word) = one(words) else {
+    let Some(word) = words.next() else {
         return Err(LineRefusal::Form);
     };
+    if !is_end(words) {
+        return Err(LineRefusal::Form);
+    }
     match name(word) {
         Some(name) => Ok(Command::Withdraw { name }),
         None => Err(LineRefusal::Name),
@@ -50,9 +57,8 @@ pub(crate) fn withdraw(words: Words<'_>) -> Result<Command, LineRefusal>
 }
 
 /// `show`, from the words behind the verb.
-#[tactic(auto, using(crate::proofs::SingleLemmas::shows))]
 pub(crate) fn show(words: Words<'_>) -> Result<Command, LineRefusal>
-    ensures { ParsesWords (codes "show" ∷ words.entry) result }
+    ensures { ParsesAs (bare_in grammar.show words.entry) result }
 {
     if is_end(words) {
         Ok(Command::Show)
@@ -62,9 +68,8 @@ pub(crate) fn show(words: Words<'_>) -> Result<Command, LineRefusal>
 }
 
 /// `propose`, from the words behind the verb.
-#[tactic(auto, using(crate::proofs::SingleLemmas::proposes))]
 pub(crate) fn propose(words: Words<'_>) -> Result<Command, LineRefusal>
-    ensures { ParsesWords (codes "propose" ∷ words.entry) result }
+    ensures { ParsesAs (bare_in grammar.propose words.entry) result }
 {
     if is_end(words) {
         Ok(Command::Propose)
@@ -74,9 +79,8 @@ pub(crate) fn propose(words: Words<'_>) -> Result<Command, LineRefusal>
 }
 
 /// `prove`, from the words behind the verb.
-#[tactic(auto, using(crate::proofs::SingleLemmas::proves))]
 pub(crate) fn prove(words: Words<'_>) -> Result<Command, LineRefusal>
-    ensures { ParsesWords (codes "prove" ∷ words.entry) result }
+    ensures { ParsesAs (bare_in grammar.prove words.entry) result }
 {
     if is_end(words) {
         Ok(Command::Prove)

@@ -1,21 +1,23 @@
 //! The verbs that set one value of what they name.
-ghost use Rattle.std.specs.Prelude.{◌≡◌, ◌∷◌, codes};
-ghost use Rattle.uhura_line.specs.Parses.{ParsesWords};
+ghost use Rattle.uhura_line.specs.Reader.{bound_in, range_in, prefer_in};
+ghost use Rattle.uhura_line.specs.Parses.{ParsesAs};
 
-use super::count::three;
+use super::count::{is_end, next_three};
 use super::places::{amount, bound as bound_at, name, side};
 use super::several::{two_ends, two_names};
 use crate::{Command, LineRefusal};
 use uhura_text::Words;
 
 /// `bound N SIDE BOUND`, from the words behind the verb.
-#[tactic(auto, using(crate::proofs::BoundLemmas::bounds))]
-pub(crate) fn bound(words: Words<'_>) -> Result<Command, LineRefusal>
-    ensures { ParsesWords (codes "bound" ∷ words.entry) result }
+pub(crate) fn bound(mut words: Words<'_>) -> Result<Command, LineRefusal>
+    ensures { ParsesAs (bound_in words.entry) result }
 {
-    let Some((word, side_word, bound_word)) = three(words) else {
+    let Some((word, side_word, bound_word)) = next_three(&mut words) else {
         return Err(LineRefusal::Form);
     };
+    if !is_end(words) {
+        return Err(LineRefusal::Form);
+    }
     let Some(side) = side(side_word) else {
         return Err(LineRefusal::Form);
     };
@@ -29,13 +31,15 @@ pub(crate) fn bound(words: Words<'_>) -> Result<Command, LineRefusal>
 }
 
 /// `range N LO HI`, from the words behind the verb.
-#[tactic(auto, using(crate::proofs::RangeLemmas::ranges))]
-pub(crate) fn range(words: Words<'_>) -> Result<Command, LineRefusal>
-    ensures { ParsesWords (codes "range" ∷ words.entry) result }
+pub(crate) fn range(mut words: Words<'_>) -> Result<Command, LineRefusal>
+    ensures { ParsesAs (range_in words.entry) result }
 {
-    let Some((word, low, high)) = three(words) else {
+    let Some((word, low, high)) = next_three(&mut words) else {
         return Err(LineRefusal::Form);
     };
+    if !is_end(words) {
+        return Err(LineRefusal::Form);
+    }
     let Some((lower, upper)) = two_ends(low, high) else {
         return Err(LineRefusal::Number);
     };
@@ -46,13 +50,15 @@ pub(crate) fn range(words: Words<'_>) -> Result<Command, LineRefusal>
 }
 
 /// `prefer C A COST`, from the words behind the verb.
-#[tactic(auto, using(crate::proofs::PreferLemmas::prefers))]
-pub(crate) fn prefer(words: Words<'_>) -> Result<Command, LineRefusal>
-    ensures { ParsesWords (codes "prefer" ∷ words.entry) result }
+pub(crate) fn prefer(mut words: Words<'_>) -> Result<Command, LineRefusal>
+    ensures { ParsesAs (prefer_in words.entry) result }
 {
-    let Some((choice, alternative, cost)) = three(words) else {
+    let Some((choice, alternative, cost)) = next_three(&mut words) else {
         return Err(LineRefusal::Form);
     };
+    if !is_end(words) {
+        return Err(LineRefusal::Form);
+    }
     let Some(cost) = amount(cost) else {
         return Err(LineRefusal::Number);
     };
