@@ -43,13 +43,15 @@ guard_names choices guard = map (literal_names choices) guard
 
 -- the name of an item: of the requirement in a slot, or of the duration at a place
 abbrev pub item_name : Lists → Item → ItemName
-item_name plan (InSlot slot) = named.Require (option_map_or (λ r. r.name) (requirement_in plan slot) [])
+item_name plan (InSlot slot) =
+    named.Require (option_map_or (λ r. r.name) (requirement_in plan slot) [])
 item_name plan (AtPlace d) = named.Uncertain (name_at (uncertain_names plan.uncertains) d)
 
 -- the command that adds a duration
 abbrev pub uncertain_command : Lists → Uncertain → Command
 uncertain_command plan u =
-    command.Uncertain u.name (name_at plan.events u.start) u.end u.lower u.upper u.lower_rate u.upper_rate
+    command.Uncertain u.name (name_at plan.events u.start) u.end u.lower u.upper
+    u.lower_rate u.upper_rate
 
 -- the command that adds a choice
 abbrev pub choice_command : Lists → Choice → Command

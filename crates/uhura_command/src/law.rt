@@ -1,8 +1,8 @@
 //! The laws of the script: a state's commands make it, its canonical script reads back, and no slot is written.
 ghost use Rattle.uhura_command.specs.Replay.{CommandsMakeStates, ScriptsReadBack, SlotsAreNotWritten};
 
-/// The commands of a state make it, one after the other from nothing, up to the slots of its requirements; so does its
-/// canonical script, read line by line.
+/// The commands of a state make it, one after the other from nothing, up to the slots of its requirements; so does
+/// its canonical script, read line by line.
 pub fn a_script_reads_back()
     ensures commands { CommandsMakeStates }
     ensures script { ScriptsReadBack }

@@ -1,5 +1,5 @@
-//! The state of a dialogue: what each command makes of it, its copy, its script, and the lines that say why a command is
-//! refused. The line language stands in `uhura_line`, whose names are passed on.
+//! The state of a dialogue: what each command makes of it, its copy, its script, and the lines that say why a
+//! command is refused. The line language stands in `uhura_line`, whose names are passed on.
 #![tactic(auto)]
 
 mod error;

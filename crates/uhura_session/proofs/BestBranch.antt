@@ -9,35 +9,35 @@ use Rattle.uhura_choice.specs.declared.prefix.Pick.{Pick}
 use Rattle.uhura_choice.specs.Branch.{picked_cost}
 use Rattle.uhura_net.specs.declared.place.Place.{Place}
 use Rattle.uhura_veto.specs.Room.{requirement_room, duration_room}
-use Rattle.uhura_worst.specs.Proposal.{Proposal, Meets}
+use Rattle.uhura_worst.specs.Proposal.{Proposal, CoversAllDurations}
 use Rattle.uhura_worst.specs.Allowed.{Allowed}
 use Rattle.uhura_worst.specs.Cost.{cost}
 use Rattle.uhura_worst.specs.WorstCase.{proposal_at}
 use Rattle.uhura_worst.specs.Best.{IsBest, AllowsNothing}
 use Rattle.uhura_worst.proofs.PassedUnits.{zero-within, keeping-allowed}
-use Rattle.uhura_relax.specs.Schedule.{proposal_with, scheduled, IsEarliestSchedule, HasNoSchedule}
+use Rattle.uhura_relax.specs.Schedule.{proposal_with, scheduled_time, IsEarliestSchedule, HasNoSchedule}
 use Rattle.uhura_veto.specs.State.{State}
 use Rattle.uhura_session.specs.Unpriced.{IsUnpriced}
 use Rattle.uhura_session.specs.Branches.{IsOpen, IsFirstCheapest, IsBestOf, IsAny}
 use Rattle.uhura_session.proofs.Opening.{allowed_open}
 use Rattle.uhura_session.proofs.Unpriced.{allowed_unloosened, allowed_unnarrowed}
-use Rattle.uhura_session.proofs.Unloosened.{whole_ranges, meets_without_units, picks_alone_cost}
+use Rattle.uhura_session.proofs.Unloosened.{whole_ranges, covers_without_units, picks_alone_cost}
 
 -- the times that keep the edges of an open branch meet its requirements with nothing loosened or narrowed
-pub open_times_meet : (state : State) (branch : List Pick) → IsUnpriced state.plan → (opens : IsOpen state branch) → Meets state.plan 1 (proposal_with branch [] opens.times)
-open_times_meet state branch unpriced opens =
+pub open_times_cover : (state : State) (branch : List Pick) → IsUnpriced state.plan → (opens : IsOpen state branch) → CoversAllDurations state.plan 1 (proposal_with branch [] opens.times)
+open_times_cover state branch unpriced opens =
     let q : Proposal = proposal_at state.plan 1 branch opens.times in
     let allowed : Allowed state 1 q = keeping-allowed state 1 branch opens.times unpriced.sound (lit≤ tt) opens.is_branch opens.not_denied opens.keeps in
-    meets_without_units state.plan 1 q (allowed_unloosened state unpriced 1 q allowed) (allowed_unnarrowed state unpriced 1 q allowed) allowed.meets
+    covers_without_units state.plan 1 q (allowed_unloosened state unpriced 1 q allowed) (allowed_unnarrowed state unpriced 1 q allowed) allowed.covers
 
 -- so it has a schedule
 pub open_scheduled : (state : State) (branch : List Pick) (cycle : List Place) → IsUnpriced state.plan → IsOpen state branch → HasNoSchedule state.plan branch [] cycle → ⊥
-open_scheduled state branch cycle unpriced opens no_schedule = no_schedule.none opens.times (open_times_meet state branch unpriced opens)
+open_scheduled state branch cycle unpriced opens no_schedule = no_schedule.none opens.times (open_times_cover state branch unpriced opens)
 
 -- a schedule of an open branch, with nothing loosened or narrowed, is allowed
 schedule_allowed : (state : State) (branch : List Pick) (times : ℕ → ℤ) → IsSound state.plan → IsOpen state branch →
-    Meets state.plan 1 (proposal_with branch [] times) → Allowed state 1 (proposal_with branch [] times)
-schedule_allowed state branch times sound opens meets = record {
+    CoversAllDurations state.plan 1 (proposal_with branch [] times) → Allowed state 1 (proposal_with branch [] times)
+schedule_allowed state branch times sound opens covers = record {
   scale = lit≤ tt;
   branch = opens.is_branch;
   not_denied = opens.not_denied;
@@ -45,7 +45,7 @@ schedule_allowed state branch times sound opens meets = record {
   loosened_active = λ side r member inactive. refl;
   narrowed_within = λ side d u is. zero-within 1 (duration_room state.vetoes d side u);
   ranges_left = whole_ranges state.plan branch times sound;
-  meets = meets;
+  covers = covers;
 }
 
 -- any proposal costs its picks at least
@@ -60,13 +60,13 @@ costs_more k less more all some order most same =
 
 -- the first cheapest open branch with its earliest schedule is the best proposal
 pub first_cheapest_is_best : (state : State) (branch : List Pick) (schedule : List ℕ) → IsUnpriced state.plan → IsFirstCheapest IsAny state branch →
-    IsEarliestSchedule state.plan branch [] schedule → IsBest state (proposal_with branch [] (scheduled schedule))
+    IsEarliestSchedule state.plan branch [] schedule → IsBest state (proposal_with branch [] (scheduled_time schedule))
 first_cheapest_is_best state branch schedule unpriced chosen found =
-    let p : Proposal = proposal_with branch [] (scheduled schedule) in
-    let costs : cost state.plan 1 p ≡ picked_cost state.plan.choices branch = picks_alone_cost state.plan branch (scheduled schedule) in
+    let p : Proposal = proposal_with branch [] (scheduled_time schedule) in
+    let costs : cost state.plan 1 p ≡ picked_cost state.plan.choices branch = picks_alone_cost state.plan branch (scheduled_time schedule) in
     record {
       cheapest = record {
-        allowed = schedule_allowed state branch (scheduled schedule) unpriced.sound chosen.open_branch found.meets;
+        allowed = schedule_allowed state branch (scheduled_time schedule) unpriced.sound chosen.open_branch found.covers;
         least = λ k q allowed.
             let no_more : picked_cost state.plan.choices branch ≤ picked_cost state.plan.choices q.branch = chosen.cheapest q.branch tt (allowed_open state k q unpriced.sound allowed) in
             let multiples : k * picked_cost state.plan.choices branch ≤ k * picked_cost state.plan.choices q.branch = mul-le-mul_left k no_more in

@@ -2,8 +2,10 @@
 use Rattle.std.specs.Prelude.{◌≡◌, ℕ, ◌⊎◌, ◌&&◌, Bool, true, false, List, [], ◌∷◌, ◌++◌, None, Some, Option, is_none, Result, Ok, Err, codes}
 use Rattle.std.specs.List.{list_all}
 use Rattle.uhura_plan.specs.Lists.{Lists}
-use Rattle.uhura_plan.specs.declared.requirement.Requirement.{Requirement}
-use Rattle.uhura_plan.specs.declared.uncertain.Uncertain.{Uncertain}
+use Rattle.uhura_plan.specs.Sides.{loosening_rate, rate_of}
+use Rattle.uhura_plan.specs.declared.key.Side.{Side}
+use Rattle.uhura_plan.specs.declared.key.Side.TheVariants.{Lower, Upper}
+use Rattle.uhura_plan.specs.declared.price.Rate.{Rate}
 use Rattle.uhura_veto.specs.State.{State}
 use Rattle.uhura_worst.specs.Proposal.{Proposal}
 use Rattle.uhura_worst.specs.Best.{IsBest, AllowsNothing}
@@ -54,17 +56,15 @@ pub record Accepts (c : Command) (state : State) (reply : Reply) : Type 0 where
   pub granted : reply.refused ≡ false
   pub applies : Applies state c reply.next
 
--- a requirement without a price
-abbrev pub is_unpriced : Requirement → Bool
-is_unpriced r = is_none r.lower.price && is_none r.upper.price
+-- neither of two sides has a rate
+abbrev pub is_rateless : (Side → Option Rate) → Bool
+is_rateless rates = is_none (rates Lower) && is_none (rates Upper)
 
--- a duration without a rate
-abbrev pub is_unrated : Uncertain → Bool
-is_unrated u = is_none u.lower_rate && is_none u.upper_rate
-
--- a plan that can be asked so far: no requirement has a price, and no duration a rate, whatever the choices and guards
+-- a plan that can be asked so far: no side of a requirement has a price, and none of a duration a rate
 abbrev pub is_unpriced_plan : Lists → Bool
-is_unpriced_plan plan = list_all is_unpriced plan.requirements && list_all is_unrated plan.uncertains
+is_unpriced_plan plan =
+    list_all (λ r. is_rateless (λ side. loosening_rate side r)) plan.requirements
+    && list_all (λ u. is_rateless (λ side. rate_of side u)) plan.uncertains
 
 -- the text is that of a best proposal
 pub record IsBestText (state : State) (text : List ℕ) : Type 0 where
@@ -88,9 +88,12 @@ AnswersEdit (Some refusal) c state reply = Refuses (IsStateError refusal) state 
 
 -- what is answered to a command
 unfoldable pub AnswersCommand : Command → State → Reply → Type 0
-AnswersCommand command.Show state reply = Tells (λ text. text ≡ shown_text state) state reply
-AnswersCommand command.Propose state reply = AnswersQuestion (is_unpriced_plan state.plan) state reply
-AnswersCommand command.Prove state reply = Refuses (λ text. text ≡ unbuilt_text) state reply
+AnswersCommand command.Show state reply =
+    Tells (λ text. text ≡ shown_text state) state reply
+AnswersCommand command.Propose state reply =
+    AnswersQuestion (is_unpriced_plan state.plan) state reply
+AnswersCommand command.Prove state reply =
+    Refuses (λ text. text ≡ unbuilt_text) state reply
 AnswersCommand c state reply = AnswersEdit (refusal_of state c) c state reply
 
 -- what is answered to a line, by what it is parsed to
@@ -100,7 +103,8 @@ AnswersParsed (Ok (Some c)) state reply = AnswersCommand c state reply
 AnswersParsed (Err refusal) state reply = Refuses (IsLineError refusal) state reply
 
 -- in a state a line is answered by this text, refused or not, and leaves the next state
-pub record Answers (state : State) (line text : List ℕ) (refused : Bool) (next : State) : Type 0 where
+pub record Answers (state : State) (line text : List ℕ) (refused : Bool)
+    (next : State) : Type 0 where
   pub parsed : Result (Option Command) LineRefusal
   pub parses : Parses line parsed
   pub answers : AnswersParsed parsed state (record { text = text; refused = refused; next = next })

@@ -7,8 +7,8 @@ ghost use Rattle.uhura_session.specs.Answers.{AnswersEdit};
 use std::alloc::AllocError;
 use uhura_command::{Command, State, put_state_error};
 
-/// Makes of the state what the command says, and writes the answer. `ok` is written first, so that after want of memory
-/// the state is as before.
+/// Makes of the state what the command says, and writes the answer. `ok` is written first, so that after want of
+/// memory the state is as before.
 pub fn edit(state: &mut State, text: &mut Vec<u8>, command: &Command) -> Result<bool, AllocError>
     requires edit { IsEdit command.now }
     requires command { IsCommand command.now }

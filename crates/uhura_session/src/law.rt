@@ -2,8 +2,8 @@
 ghost use Rattle.uhura_session.specs.ReadsBack.{ShowsReadBack};
 ghost use Rattle.uhura_session.specs.Refused.{RefusalsAreErrors};
 
-/// The answer to `show`, read as a script by a new dialogue, makes the same state up to the slots of its requirements.
-/// Each line of it is accepted, or is the comment `# end`.
+/// The answer to `show`, read as a script by a new dialogue, makes the same state up to the slots of its
+/// requirements. Each line of it is accepted, or is the comment `# end`.
 pub fn show_reads_back()
     ensures { ShowsReadBack }
 {}

@@ -2,8 +2,9 @@
 ghost use Rattle.std.specs.Prelude.{◌≡◌, [], true, IfOk};
 ghost use Rattle.std.specs.List.{list_all};
 ghost use Rattle.uhura_plan.specs.Sound.{IsSound};
+ghost use Rattle.uhura_plan.specs.Sides.{loosening_rate, rate_of};
 ghost use Rattle.uhura_relax.specs.Schedule.{IsEarliestSchedule};
-ghost use Rattle.uhura_session.specs.Answers.{AnswersQuestion, IsProposed, is_unpriced, is_unrated, is_unpriced_plan};
+ghost use Rattle.uhura_session.specs.Answers.{AnswersQuestion, IsProposed, is_rateless, is_unpriced_plan};
 ghost use Rattle.uhura_session.specs.Branches.{IsOpen};
 ghost use Rattle.uhura_session.specs.Unpriced.{IsUnpriced};
 
@@ -13,7 +14,7 @@ use crate::solver::Solver;
 use std::alloc::{AllocError, Global};
 use uhura_choice::Branch;
 use uhura_command::{State, put_unbuilt};
-use uhura_plan::{Plan, Requirement, Uncertain};
+use uhura_plan::{Plan, Requirement, Side, Uncertain};
 use uhura_relax::{RelaxRefusal, Schedule};
 use uhura_veto::Vetoes;
 
@@ -69,8 +70,8 @@ fn put_answer(
     }
 }
 
-/// The earliest schedule of an open branch, with nothing loosened or narrowed. There is one: without prices an edge that
-/// isn't loose has the bound of its side, so times that keep such edges pass no bound.
+/// The earliest schedule of an open branch, with nothing loosened or narrowed. There is one: without prices an edge
+/// that isn't loose has the bound of its side, so times that keep such edges pass no bound.
 fn schedule_branch(
     alloc: Global,
     plan: &Plan,
@@ -99,7 +100,8 @@ fn is_unpriced_plan(plan: &Plan) -> bool
 
 /// Whether no requirement has a price.
 fn has_no_price(plan: &Plan) -> bool
-    ensures test { result ≡ list_all is_unpriced plan.now.requirements }
+    ensures test { result ≡
+        list_all (λ r. is_rateless (λ side. loosening_rate side r)) plan.now.requirements }
     ensures sound { IsSound plan.now }
 {
     for position in 0..plan.requirements() {
@@ -113,7 +115,7 @@ fn has_no_price(plan: &Plan) -> bool
 
 /// Whether no duration has a rate.
 fn has_no_rate(plan: &Plan) -> bool
-    ensures { result ≡ list_all is_unrated plan.now.uncertains }
+    ensures { result ≡ list_all (λ u. is_rateless (λ side. rate_of side u)) plan.now.uncertains }
 {
     for duration in 0..plan.uncertains() {
         let uncertain = plan.uncertain(duration).unwrap();
@@ -126,14 +128,14 @@ fn has_no_rate(plan: &Plan) -> bool
 
 /// Whether neither side of the requirement has a price.
 fn is_unpriced(requirement: &Requirement) -> bool
-    ensures { result ≡ is_unpriced requirement.now }
+    ensures { result ≡ is_rateless (λ side. loosening_rate side requirement.now) }
 {
-    requirement.lower.price.is_none() && requirement.upper.price.is_none()
+    requirement.rate(Side::Lower).is_none() && requirement.rate(Side::Upper).is_none()
 }
 
 /// Whether neither side of the duration has a rate.
 fn is_unrated(uncertain: &Uncertain) -> bool
-    ensures { result ≡ is_unrated uncertain.now }
+    ensures { result ≡ is_rateless (λ side. rate_of side uncertain.now) }
 {
-    uncertain.lower_rate.is_none() && uncertain.upper_rate.is_none()
+    uncertain.rate(Side::Lower).is_none() && uncertain.rate(Side::Upper).is_none()
 }

@@ -40,7 +40,8 @@ fn script_text(alloc: Global, plan: &Plan) -> Result<Vec<u8>, AllocError>
 /// Appends the lines of the controllable events.
 fn put_events(plan: &Plan, text: &mut Vec<u8>) -> Result<(), AllocError>
     ensures { IfOk result (λ _. text.new.items ≡
-        text.old.items ++ flat_map command_line (map (λ name. command.Event name) plan.now.events)) }
+        text.old.items ++
+        flat_map command_line (map (λ name. command.Event name) plan.now.events)) }
 {
     for place in 0..plan.events() {
         let name = event_at(plan, place);
@@ -52,7 +53,8 @@ fn put_events(plan: &Plan, text: &mut Vec<u8>) -> Result<(), AllocError>
 /// Appends the lines of the durations.
 fn put_uncertains(plan: &Plan, text: &mut Vec<u8>) -> Result<(), AllocError>
     ensures { IfOk result (λ _. text.new.items ≡
-        text.old.items ++ flat_map command_line (map (uncertain_command plan.now) plan.now.uncertains)) }
+        text.old.items ++
+        flat_map command_line (map (uncertain_command plan.now) plan.now.uncertains)) }
 {
     for place in 0..plan.uncertains() {
         let uncertain = plan.uncertain(place).unwrap();
@@ -64,7 +66,8 @@ fn put_uncertains(plan: &Plan, text: &mut Vec<u8>) -> Result<(), AllocError>
 /// Appends the lines of the choices.
 fn put_choices(plan: &Plan, text: &mut Vec<u8>) -> Result<(), AllocError>
     ensures { IfOk result (λ _. text.new.items ≡
-        text.old.items ++ flat_map command_line (map (choice_command plan.now) plan.now.choices)) }
+        text.old.items ++
+        flat_map command_line (map (choice_command plan.now) plan.now.choices)) }
 {
     for place in 0..plan.choices() {
         let choice = plan.choice(place).unwrap();
@@ -77,7 +80,8 @@ fn put_choices(plan: &Plan, text: &mut Vec<u8>) -> Result<(), AllocError>
 /// Appends the lines of the requirements.
 fn put_requirements(plan: &Plan, text: &mut Vec<u8>) -> Result<(), AllocError>
     ensures { IfOk result (λ _. text.new.items ≡
-        text.old.items ++ flat_map command_line (map (requirement_command plan.now) plan.now.requirements)) }
+        text.old.items ++
+        flat_map command_line (map (requirement_command plan.now) plan.now.requirements)) }
 {
     for place in 0..plan.requirements() {
         let requirement = plan.requirement(place).unwrap();

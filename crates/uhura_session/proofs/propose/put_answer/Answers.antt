@@ -1,7 +1,7 @@
 use Rattle.std.proofs.Common.{ap, ◌∙◌, inl, inr, ◌++◌}
 use Rattle.std.specs.Prelude.{codes, []}
 use Rattle.uhura_veto.specs.State.{State}
-use Rattle.uhura_relax.specs.Schedule.{proposal_with, scheduled}
+use Rattle.uhura_relax.specs.Schedule.{proposal_with, scheduled_time}
 use Rattle.uhura_session.proofs.BestBranch.{first_cheapest_is_best, nothing_is_allowed}
 use Rattle.uhura_session.proofs.propose.put_answer.Goals as goal
 
@@ -11,7 +11,7 @@ returns-in_ok-put_proposal-in-Some c =
     let branch = c.in-Some.branch in
     let schedule = c.in_ok-schedule-in-Some.schedule in
     inl (record {
-      proposal = proposal_with branch [] (scheduled schedule);
+      proposal = proposal_with branch [] (scheduled_time schedule);
       best = first_cheapest_is_best state branch schedule c.requires.unpriced c.in-Some.ensures c.in_ok-schedule-in-Some.ensures;
       is_text = c.in_ok-put_proposal-in-Some.ensures;
     })
