@@ -13,7 +13,9 @@ pub mod Spelling
 pub mod MakesChoices
 pub mod MakesRequirements
 pub mod MakesPlan
+pub mod Slotless
+pub mod ErrorLines
+pub mod Applying
 pub mod Accepting
 pub mod Numbering
 pub mod Products
-pub mod Applying

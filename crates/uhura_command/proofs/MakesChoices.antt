@@ -2,6 +2,7 @@
 use Rattle.std.proofs.Common.{◌≡◌, ℕ, suc, ◌<◌, ◌≤◌, List, [], length, take, map, get_or, None, Some, slice_get, option_map, is_some, All, refl, ap, arith}
 use Rattle.std.proofs.lemmas.Bool.{lt-leb, le-ltb}
 use Rattle.std.proofs.lemmas.Option.{slice_get_within, slice_get-get_or}
+use Rattle.uhura_plan.specs.declared.limits.TheConstants.{BRANCHES, CHOICES}
 use Rattle.uhura_plan.specs.declared.choice.Choice.{Choice}
 use Rattle.uhura_plan.specs.Lists.{Lists, choice_names, alternative_names}
 use Rattle.uhura_plan.specs.Refusals.{choice_refusal, product_with}
@@ -17,7 +18,7 @@ use Rattle.uhura_command.proofs.Making.{state_with, makes_each}
 use Rattle.uhura_command.proofs.Products.{product_of_first}
 use Rattle.uhura_command.proofs.Accepting.{none_then, passed}
 
-module _ (plan : Lists) (distinct : AreDistinct (choice_names plan.choices)) (sound : (place : ℕ) (choice : Choice) → slice_get plan.choices place ≡ Some choice → IsSoundChoice (take place plan.choices) choice) (few : length plan.choices ≤ 16) (product : alternatives_product plan.choices ≤ 65536) where
+module _ (plan : Lists) (distinct : AreDistinct (choice_names plan.choices)) (sound : (place : ℕ) (choice : Choice) → slice_get plan.choices place ≡ Some choice → IsSoundChoice (take place plan.choices) choice) (few : length plan.choices ≤ CHOICES) (product : alternatives_product plan.choices ≤ BRANCHES) where
   -- the state with all events and durations, and the choices before a place
   abbrev before : ℕ → State
   before i = state_with plan.events plan.uncertains (take i plan.choices) []
@@ -36,8 +37,8 @@ module _ (plan : Lists) (distinct : AreDistinct (choice_names plan.choices)) (so
     accepted : choice_refusal (before i).plan c.name c.alternatives guard ≡ None
     accepted =
         let here = sound i c at in
-        let room : length (take i plan.choices) < 16 = omega (arith, few, slice_get_within plan.choices i c at, length_before plan.choices i c at) in
-        let small : product_with (before i).plan c.alternatives ≤ 65536 = omega (arith, product, product_of_first plan.choices i c each_has_one at) in
+        let room : length (take i plan.choices) < CHOICES = omega (arith, few, slice_get_within plan.choices i c at, length_before plan.choices i c at) in
+        let small : product_with (before i).plan c.alternatives ≤ BRANCHES = omega (arith, product, product_of_first plan.choices i c each_has_one at) in
         none_then _ _ (passed _ _ (ap is_some (new_name (λ x. x.name) plan.choices i c distinct at)))
         (none_then _ _ (passed _ _ (ap is_some (not_repeated (alternative_names c) here.distinct)))
         (none_then _ _ (none_unknown plan.choices (before i).plan begins _ c.guard here.guard.among)

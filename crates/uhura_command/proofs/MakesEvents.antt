@@ -3,6 +3,7 @@ use Rattle.std.proofs.Common.{◌≡◌, ℕ, suc, ◌<◌, ◌≤◌, List, [],
 use Rattle.std.specs.Option.{option_or}
 use Rattle.std.proofs.lemmas.Bool.{lt-leb}
 use Rattle.std.proofs.lemmas.Option.{slice_get_within}
+use Rattle.uhura_plan.specs.declared.limits.TheConstants.{EVENTS}
 use Rattle.uhura_plan.specs.Find.{find_event}
 use Rattle.uhura_plan.specs.Refusals.{event_refusal, event_count}
 use Rattle.uhura_plan.specs.Sound.{AreDistinct}
@@ -16,7 +17,7 @@ use Rattle.uhura_command.proofs.Naming.{not_before, not_found}
 use Rattle.uhura_command.proofs.Making.{state_with, makes_each}
 use Rattle.uhura_command.proofs.Accepting.{none_then, passed}
 
-module _ (events : List (List ℕ)) (distinct : AreDistinct events) (few : length events ≤ 512) where
+module _ (events : List (List ℕ)) (distinct : AreDistinct events) (few : length events ≤ EVENTS) where
   -- the state with the events before a place
   abbrev before : ℕ → State
   before i = state_with (take i events) [] [] []
@@ -26,7 +27,7 @@ module _ (events : List (List ℕ)) (distinct : AreDistinct events) (few : lengt
   adds i name at =
       let new : find_event (before i).plan name ≡ None =
       ap (λ place. option_or (option_map (λ e. Controllable e) place) None) (not_found (take i events) name (not_before events distinct i name at)) in
-      let room : event_count (before i).plan < 512 = omega (arith, few, slice_get_within events i name at, length_before events i name at) in
+      let room : event_count (before i).plan < EVENTS = omega (arith, few, slice_get_within events i name at, length_before events i name at) in
       let none : event_refusal (before i).plan name ≡ None = none_then _ _ (passed _ _ (ap is_some new)) (none_then _ _ (passed _ _ (lt-leb _ _ room)) refl) in
       record {
         edits = tt;

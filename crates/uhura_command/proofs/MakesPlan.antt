@@ -1,13 +1,13 @@
 -- The commands of a plan make the plan, up to the slots of its requirements.
-use Rattle.std.proofs.Common.{◌≡◌, List, [], length, take, map, refl, subst, arith}
+use Rattle.std.proofs.Common.{◌≡◌, List, [], length, take, map, refl, subst, arith, append-nil}
 use Rattle.std.proofs.lemmas.List.{take_all}
 use Rattle.uhura_plan.specs.Lists.{Lists}
 use Rattle.uhura_plan.specs.Sound.{IsSound}
 use Rattle.uhura_veto.specs.State.{State}
 use Rattle.uhura_line.specs.declared.command.Command.TheVariants as command
-use Rattle.uhura_command.specs.State.{empty_state}
-use Rattle.uhura_command.specs.Script.{uncertain_command, choice_command, requirement_command, commands_of}
-use Rattle.uhura_command.specs.Replay.{Makes, IsSameUpToSlots}
+use Rattle.uhura_command.specs.State.{empty_state, IsSoundState}
+use Rattle.uhura_command.specs.Script.{uncertain_command, choice_command, requirement_command, plan_commands, commands_of}
+use Rattle.uhura_command.specs.Replay.{Makes, IsMadeBy}
 use Rattle.uhura_command.proofs.Making.{state_with, Makes-append}
 use Rattle.uhura_command.proofs.MakesEvents.{makes_events}
 use Rattle.uhura_command.proofs.MakesUncertains.{makes_uncertains}
@@ -49,9 +49,23 @@ module _ (plan : Lists) (sound : IsSound plan) where
       subst (λ rs. Makes with_choices (map (requirement_command plan) plan.requirements) (state_with plan.events plan.uncertains plan.choices rs)) all
       (makes_requirements plan sound.distinct (λ place choice at. (sound.choices place choice at).distinct) sound.requirements sound.counts.requirements)
 
-  makes : Makes empty_state (commands_of plan) with_requirements
+  makes : Makes empty_state (plan_commands plan) with_requirements
   makes = Makes-append empty_state _ _ with_choices with_requirements (Makes-append empty_state _ _ with_uncertains with_choices (Makes-append empty_state _ _ with_events with_uncertains events uncertains) choices) requirements
 
--- a sound plan is made by its commands, from the empty state on
-pub makes_plan : (plan : Lists) → IsSound plan → (last : State) × Makes empty_state (commands_of plan) last × IsSameUpToSlots last.plan plan
-makes_plan plan sound = (with_requirements plan sound, makes plan sound, record { events = refl; uncertains = refl; choices = refl; requirements = same_but_slots 0 plan.requirements })
+-- a state without vetoes is made by the commands of its plan alone
+pub commands-unvetoed : (state : State) → IsSoundState state → commands_of state ≡ plan_commands state.plan
+commands-unvetoed state sound = rw sound.vetoes (append-nil (plan_commands state.plan))
+
+-- a sound state is made by its commands, from the empty state on
+pub makes_state : (state : State) → IsSoundState state → IsMadeBy state (commands_of state)
+makes_state state sound = record {
+  last = with_requirements state.plan sound.plan;
+  makes = rw (commands-unvetoed state sound) (makes state.plan sound.plan);
+  same = record {
+    events = refl;
+    uncertains = refl;
+    choices = refl;
+    requirements = same_but_slots 0 state.plan.requirements;
+    vetoes = rw sound.vetoes refl;
+  };
+}

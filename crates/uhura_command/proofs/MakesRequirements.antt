@@ -2,6 +2,7 @@
 use Rattle.std.proofs.Common.{◌≡◌, ℕ, suc, ◌<◌, ◌≤◌, false, List, length, take, map, None, Some, slice_get, option_map, is_some, is_none, All, bytes_eq, refl, sym, ap, subst, ◌∙◌, arith, zero-add}
 use Rattle.std.proofs.lemmas.Bool.{lt-leb}
 use Rattle.std.proofs.lemmas.Option.{slice_get_within, get_or_from_slice_get, same_Some}
+use Rattle.uhura_plan.specs.declared.limits.TheConstants.{REQUIREMENTS}
 use Rattle.uhura_plan.specs.declared.choice.Choice.{Choice}
 use Rattle.uhura_plan.specs.declared.requirement.Requirement.{Requirement}
 use Rattle.uhura_plan.specs.Lists.{Lists, requirement_names, alternative_names}
@@ -20,7 +21,7 @@ use Rattle.uhura_command.proofs.Making.{state_with, makes_each}
 use Rattle.uhura_command.proofs.Numbering.{numbered, numbered_at, numbered_names, least_free}
 use Rattle.uhura_command.proofs.Accepting.{none_then, passed, not_empty}
 
-module _ (plan : Lists) (distinct : HasDistinctNames plan) (alternatives : (place : ℕ) (choice : Choice) → slice_get plan.choices place ≡ Some choice → AreDistinct (alternative_names choice)) (sound : All (IsSoundRequirement plan) plan.requirements) (few : length plan.requirements ≤ 2048) where
+module _ (plan : Lists) (distinct : HasDistinctNames plan) (alternatives : (place : ℕ) (choice : Choice) → slice_get plan.choices place ≡ Some choice → AreDistinct (alternative_names choice)) (sound : All (IsSoundRequirement plan) plan.requirements) (few : length plan.requirements ≤ REQUIREMENTS) where
   -- the plan's requirements, in counted slots
   abbrev counted : List Requirement
   counted = numbered 0 plan.requirements
@@ -58,7 +59,7 @@ module _ (plan : Lists) (distinct : HasDistinctNames plan) (alternatives : (plac
     accepted : requirement_refusal (before i).plan r.name (event_name plan r.from) (event_name plan r.to) r.lower r.upper guard ≡ None
     accepted =
         let names_distinct : AreDistinct (requirement_names counted) = subst AreDistinct (sym (numbered_names 0 plan.requirements)) distinct.requirements in
-        let room : length (take i counted) < 2048 = omega (arith, few, within, length_before counted i (in_slot i r) counted_at) in
+        let room : length (take i counted) < REQUIREMENTS = omega (arith, few, within, length_before counted i (in_slot i r) counted_at) in
         none_then _ _ (passed _ _ (ap is_some (new_name (λ x. x.name) counted i (in_slot i r) names_distinct counted_at)))
         (none_then _ _ (passed _ _ (ap is_none from_found))
         (none_then _ _ (passed _ _ (ap is_none to_found))
@@ -75,7 +76,7 @@ module _ (plan : Lists) (distinct : HasDistinctNames plan) (alternatives : (plac
       accepted = ap (option_map of_edit) accepted;
       plan = record {
         made = in_slot i r;
-        stated = record {
+        found = record {
           same_name = refl;
           found_from = sym from_found;
           found_to = sym to_found;

@@ -3,6 +3,7 @@ use Rattle.std.proofs.Common.{◌≡◌, ℕ, suc, ◌+◌, ◌<◌, ◌≤◌, 
 use Rattle.std.specs.Option.{option_or}
 use Rattle.std.proofs.lemmas.Bool.{lt-leb}
 use Rattle.std.proofs.lemmas.Option.{slice_get_within, slice_get-map, get_or_from_slice_get}
+use Rattle.uhura_plan.specs.declared.limits.TheConstants.{EVENTS, UNCERTAINS}
 use Rattle.uhura_plan.specs.Lists.{Lists, end_names}
 use Rattle.uhura_plan.specs.Find.{find_event, place_of}
 use Rattle.uhura_plan.specs.Refusals.{uncertain_refusal, event_count, is_end}
@@ -19,7 +20,7 @@ use Rattle.uhura_command.proofs.FoundEvents.{event_found, end_apart}
 use Rattle.uhura_command.proofs.Making.{state_with, makes_each}
 use Rattle.uhura_command.proofs.Accepting.{none_then, passed, not_empty}
 
-module _ (plan : Lists) (distinct : HasDistinctNames plan) (sound : All (IsSoundUncertain (length plan.events)) plan.uncertains) (few : length plan.events + length plan.uncertains ≤ 512) (fewer : length plan.uncertains ≤ 256) where
+module _ (plan : Lists) (distinct : HasDistinctNames plan) (sound : All (IsSoundUncertain (length plan.events)) plan.uncertains) (few : length plan.events + length plan.uncertains ≤ EVENTS) (fewer : length plan.uncertains ≤ UNCERTAINS) where
   -- the state with all events and the durations before a place
   abbrev before : ℕ → State
   before i = state_with plan.events (take i plan.uncertains) [] []
@@ -55,8 +56,8 @@ module _ (plan : Lists) (distinct : HasDistinctNames plan) (sound : All (IsSound
     accepted =
         let inside : i < length plan.uncertains = slice_get_within plan.uncertains i u at in
         let so_many : length (take i plan.uncertains) ≡ i = length_before plan.uncertains i u at in
-        let room : length (take i plan.uncertains) < 256 = omega arith in
-        let room_for_end : event_count (before i).plan < 512 = omega arith in
+        let room : length (take i plan.uncertains) < UNCERTAINS = omega arith in
+        let room_for_end : event_count (before i).plan < EVENTS = omega arith in
         none_then _ _ (passed _ _ (ap is_some (new_name (λ x. x.name) plan.uncertains i u distinct.uncertains at)))
         (none_then _ _ (passed _ _ (ap is_some end_new))
         (none_then _ _ (passed _ _ end_other)

@@ -1,29 +1,30 @@
 -- The commands that make a sound plan are commands that fit on a line.
-use Rattle.std.proofs.Common.{◌≡◌, ◌≢◌, ℕ, ◌≤◌, pos, ◌≤ℤ◌, true, List, [], ◌∷◌, ◌++◌, length, take, map, Option, Some, None, IfSome, All, get_or, codes, refl, arith, length-append}
+use Rattle.std.proofs.Common.{◌≡◌, ◌≢◌, ℕ, ◌≤◌, pos, ◌≤ℤ◌, true, List, [], ◌∷◌, ◌++◌, length, take, map, Option, Some, None, IfSome, All, get_or, codes, refl, sym, ap, ◌∙◌, true≢false, false, arith, length-append}
 use Rattle.std.specs.List.{AllByRecursion, list_all}
 use Rattle.std.specs.Prelude.{option_map}
 use Rattle.std.proofs.lemmas.Int.{ints}
 use Rattle.std.proofs.lemmas.Option.{slice_get-get_or}
 use Rattle.std.proofs.lemmas.List.{length-map, length-take}
 use Rattle.std.proofs.lemmas.List.Elements.{All-append, All-map, All-weaker, recursion_from_All}
+use Rattle.uhura_text.specs.Number.{number_of, is_magnitude}
 use Rattle.uhura_plan.specs.declared.key.Side.TheVariants.{Lower, Upper}
 use Rattle.uhura_plan.specs.declared.uncertain.Uncertain.{Uncertain}
 use Rattle.uhura_plan.specs.declared.choice.Choice.{Choice}
 use Rattle.uhura_plan.specs.declared.requirement.Requirement.{Requirement}
-use Rattle.uhura_plan.specs.declared.requirement.Price.{Price}
+use Rattle.uhura_plan.specs.declared.price.Price.{Price}
 use Rattle.uhura_plan.specs.Name.{is_name}
 use Rattle.uhura_plan.specs.Limits.{IsAmount, IsPrice}
 use Rattle.uhura_plan.specs.Lists.{Lists, alternative_names}
 use Rattle.uhura_plan.specs.Sound.{IsName, IsSound, IsSoundUncertain, IsSoundChoice, IsSoundRequirement, IsLiteralAmong}
 use Rattle.uhura_plan.proofs.Building.{few_literals}
 use Rattle.uhura_line.specs.declared.command.Command.TheVariants as command
-use Rattle.uhura_line.specs.Form.{Word, pair_words, guard_words, rate_words, price_words, IsMax, HasMax}
-use Rattle.uhura_line.specs.Reads.{IsCommand, count_word, priced_of, alternative_pairs, is_amount}
-use Rattle.uhura_command.specs.Script.{literal_names, guard_names, uncertain_command, choice_command, requirement_command, commands_of}
+use Rattle.uhura_line.specs.Form.{Word, pair_words, guard_words, rate_words, price_words}
+use Rattle.uhura_line.specs.Reads.{IsCommand, count_word, rated_of, priced_of, alternative_pairs, is_amount}
+use Rattle.uhura_command.specs.Script.{literal_names, guard_names, uncertain_command, choice_command, requirement_command, plan_commands}
 use Rattle.uhura_line.proofs.LineLengths.{length-pair_words, length-guard_words, length-rate_words, length-price_words}
 use Rattle.uhura_command.proofs.CommandLines.{FitsLine, few_words}
 use Rattle.uhura_command.proofs.PlanNames.{place_named, event_named, guard_named, literals_among_all, name_not_when}
-use Rattle.uhura_line.proofs.PlanNumbers.{amount_passes, end_passes, rates_pass, bound_passes, price_passes, not_upper, not_when}
+use Rattle.uhura_line.proofs.PlanNumbers.{amount_passes, end_passes, rates_pass, bound_passes, price_passes, has_max}
 
 -- ---- events
 
@@ -47,10 +48,10 @@ uncertain_is_command plan u sound is = record {
 
 uncertain_fits : (plan : Lists) (u : Uncertain) → IsSound plan → IsSoundUncertain (length plan.events) u → FitsLine (uncertain_command plan u)
 uncertain_fits plan u sound is =
-    let lower : List Word = rate_words Lower (option_map count_word u.lower_rate) in
-    let upper : List Word = rate_words Upper (option_map count_word u.upper_rate) in
+    let lower : List Word = rate_words Lower (option_map rated_of u.lower_rate) in
+    let upper : List Word = rate_words Upper (option_map rated_of u.upper_rate) in
     few_words (uncertain_command plan u) (uncertain_is_command plan u sound is)
-    (omega (arith, length-append lower upper, length-rate_words Lower (option_map count_word u.lower_rate), length-rate_words Upper (option_map count_word u.upper_rate)))
+    (omega (arith, length-append lower upper, length-rate_words Lower (option_map rated_of u.lower_rate), length-rate_words Upper (option_map rated_of u.upper_rate)))
 
 -- ---- choices
 
@@ -63,9 +64,15 @@ are_alternatives : (alternatives : List (List ℕ × ℕ)) → AllByRecursion Is
 are_alternatives [] names costs = tt
 are_alternatives (a ∷ alternatives) names costs = (record { name = names.0; cost = costs.0 }, are_alternatives alternatives names.1 costs.1)
 
+cost_not_when : (n : ℕ) → IsAmount n → count_word n ≢ codes "when"
+unfolding number_of is_magnitude
+cost_not_when n small same =
+    let no : is_amount (codes "when") ≡ false = refl in
+    true≢false (sym (amount_passes n small) ∙ (ap is_amount same ∙ no))
+
 whenless : (alternatives : List (List ℕ × ℕ)) → AllByRecursion IsAlternative alternatives → AllByRecursion (λ word. word ≢ codes "when") (pair_words (alternative_pairs alternatives))
 whenless [] are = tt
-whenless (a ∷ alternatives) are = (name_not_when a.0 are.0.name, (not_when a.1 are.0.cost, whenless alternatives are.1))
+whenless (a ∷ alternatives) are = (name_not_when a.0 are.0.name, (cost_not_when a.1 are.0.cost, whenless alternatives are.1))
 
 alternatives_named : (alternatives : List (List ℕ × ℕ)) → AllByRecursion IsAlternative alternatives → list_all (λ a. is_name a.0) (alternative_pairs alternatives) ≡ true
 alternatives_named [] are = refl
@@ -114,26 +121,9 @@ module _ (plan : Lists) (place : ℕ) (choice : Choice) (sound : IsSound plan) (
 
 -- ---- requirements
 
--- the MAX of a price within its limits begins nothing that may follow it
-lower_max : (price : Option Price) → IfSome price IsPrice → HasMax (codes "upper" ∷ codes "when" ∷ []) (option_map priced_of price)
-lower_max None within = tt
-lower_max (Some p) within = by p.most within.most
-  where
-    by : (most : Option ℕ) → IfSome most IsAmount → IsMax (codes "upper" ∷ codes "when" ∷ []) (option_map count_word most)
-    by None small = tt
-    by (Some n) small = (not_upper n small, (not_when n small, tt))
-
-upper_max : (price : Option Price) → IfSome price IsPrice → HasMax (codes "when" ∷ []) (option_map priced_of price)
-upper_max None within = tt
-upper_max (Some p) within = by p.most within.most
-  where
-    by : (most : Option ℕ) → IfSome most IsAmount → IsMax (codes "when" ∷ []) (option_map count_word most)
-    by None small = tt
-    by (Some n) small = (not_when n small, tt)
-
 requirement_is_command : (plan : Lists) (r : Requirement) → IsSound plan → IsSoundRequirement plan r → IsCommand (requirement_command plan r)
 requirement_is_command plan r sound is = record {
-  taken = (lower_max r.lower.price is.lower.price, upper_max r.upper.price is.upper.price);
+  taken = (has_max Lower r.lower.price is.lower.price, has_max Upper r.upper.price is.upper.price);
   names = rw (is.name, event_named plan r.from sound is.from, event_named plan r.to sound is.to, guard_named plan.choices r.guard sound.choices is.guard.among) refl;
   numbers = rw (bound_passes r.lower.bound is.lower.bound, bound_passes r.upper.bound is.upper.bound, price_passes r.lower.price is.lower.price, price_passes r.upper.price is.upper.price) refl;
 }
@@ -158,9 +148,9 @@ requirement_fits plan r sound is =
 
 -- ---- all of them
 
-pub commands_fit : (plan : Lists) → IsSound plan → AllByRecursion FitsLine (commands_of plan)
+pub commands_fit : (plan : Lists) → IsSound plan → AllByRecursion FitsLine (plan_commands plan)
 commands_fit plan sound =
-    recursion_from_All FitsLine (commands_of plan)
+    recursion_from_All FitsLine (plan_commands plan)
     (All-append FitsLine _ _
     (All-append FitsLine _ _
     (All-append FitsLine _ _

@@ -29,39 +29,65 @@ of_edit (edit.Guard at) = Guard at
 of_edit (edit.Full limit has) = Full limit has
 of_edit (edit.Memory error) = Memory error
 
--- the first refusal of an edit of the plan, where it has one
-abbrev pub edit_refusal : Lists → Command → Option EditRefusal
-edit_refusal plan (command.Event name) = event_refusal plan name
-edit_refusal plan (command.Uncertain name start end lower upper lower_rate upper_rate) = uncertain_refusal plan name start end lower upper
-edit_refusal plan (command.Choice name alternatives guard) = choice_refusal plan name alternatives guard
-edit_refusal plan (command.Require name from to lower upper guard) = requirement_refusal plan name from to lower upper guard
-edit_refusal plan (command.Drop name) = no_requirement plan name
-edit_refusal plan (command.Bound name side bound) = bound_refusal plan name side bound
-edit_refusal plan (command.Price name side price) = no_requirement plan name
-edit_refusal plan (command.Rate name side rate) = no_uncertain plan name
-edit_refusal plan (command.Range name lower upper) = range_refusal plan name lower upper
-edit_refusal plan (command.Prefer choice alternative cost) = preference_refusal plan choice alternative
-edit_refusal plan c = None
-
 -- the first refusal of a command, where it has one. Vetoes can't be made yet
 abbrev pub refusal_of : State → Command → Option StateRefusal
+refusal_of state (command.Event name) = option_map of_edit (event_refusal state.plan name)
+refusal_of state (command.Uncertain name start end lower upper lower_rate upper_rate) =
+    option_map of_edit (uncertain_refusal state.plan name start end lower upper)
+refusal_of state (command.Choice name alternatives guard) =
+    option_map of_edit (choice_refusal state.plan name alternatives guard)
+refusal_of state (command.Require name from to lower upper guard) =
+    option_map of_edit (requirement_refusal state.plan name from to lower upper guard)
+refusal_of state (command.Drop name) = option_map of_edit (no_requirement state.plan name)
+refusal_of state (command.Bound name side bound) =
+    option_map of_edit (bound_refusal state.plan name side bound)
+refusal_of state (command.Price name side price) =
+    option_map of_edit (no_requirement state.plan name)
+refusal_of state (command.Rate name side rate) = option_map of_edit (no_uncertain state.plan name)
+refusal_of state (command.Range name lower upper) =
+    option_map of_edit (range_refusal state.plan name lower upper)
+refusal_of state (command.Prefer choice alternative cost) =
+    option_map of_edit (preference_refusal state.plan choice alternative)
 refusal_of state (command.Deny name literals) = Some Unbuilt
 refusal_of state (command.Cap name item side units) = Some Unbuilt
 refusal_of state (command.Withdraw name) = Some Unbuilt
-refusal_of state c = option_map of_edit (edit_refusal state.plan c)
+refusal_of state c = None
 
 -- the new plan is what the command makes of the old one
 abbrev pub Edits : Lists → Command → Lists → Type 0
 Edits old (command.Event name) new = new ≡ with_event old name
-Edits old (command.Uncertain name start end lower upper lower_rate upper_rate) new = AddsUncertain old new name start end lower upper lower_rate upper_rate
-Edits old (command.Choice name alternatives guard) new = AddsChoice old new name alternatives guard
-Edits old (command.Require name from to lower upper guard) new = AddsRequirement old new name from to lower upper guard
+Edits old (command.Uncertain name start end lower upper lower_rate upper_rate) new =
+    AddsUncertain old new (record {
+      name = name;
+      start = start;
+      end = end;
+      lower = lower;
+      upper = upper;
+      lower_rate = lower_rate;
+      upper_rate = upper_rate;
+    })
+Edits old (command.Choice name alternatives guard) new =
+    AddsChoice old new (record { name = name; alternatives = alternatives; guard = guard })
+Edits old (command.Require name from to lower upper guard) new =
+    AddsRequirement old new (record {
+      name = name;
+      from = from;
+      to = to;
+      lower = lower;
+      upper = upper;
+      guard = guard;
+    })
 Edits old (command.Drop name) new = new ≡ without_requirement name old
-Edits old (command.Bound name side bound) new = new ≡ change_requirement (with_bound side bound) name old
-Edits old (command.Price name side price) new = new ≡ change_requirement (with_price side price) name old
-Edits old (command.Rate name side rate) new = new ≡ change_uncertain (with_rate side rate) name old
-Edits old (command.Range name lower upper) new = new ≡ change_uncertain (with_range lower upper) name old
-Edits old (command.Prefer choice alternative cost) new = new ≡ change_choice (with_cost alternative cost) choice old
+Edits old (command.Bound name side bound) new =
+    new ≡ change_requirement (with_bound side bound) name old
+Edits old (command.Price name side price) new =
+    new ≡ change_requirement (with_price side price) name old
+Edits old (command.Rate name side rate) new =
+    new ≡ change_uncertain (with_rate side rate) name old
+Edits old (command.Range name lower upper) new =
+    new ≡ change_uncertain (with_range lower upper) name old
+Edits old (command.Prefer choice alternative cost) new =
+    new ≡ change_choice (with_cost alternative cost) choice old
 Edits old c new = new ≡ old
 
 -- a command that edits makes the next state of this one: it has no refusal, and only what it names is edited
@@ -76,3 +102,8 @@ abbrev pub AnswersFirst : Option StateRefusal → Result ⊤ StateRefusal → Ty
 AnswersFirst (Some refusal) result = result ≡ Err refusal
 AnswersFirst None (Ok done) = ⊤
 AnswersFirst None (Err refusal) = refusal ≡ Memory alloc_error
+
+-- the answer to an edit of the plan, as the state's
+abbrev pub IsPassedOn : Result ⊤ EditRefusal → Result ⊤ StateRefusal → Type 0
+IsPassedOn (Ok done) passed = passed ≡ Ok tt
+IsPassedOn (Err refusal) passed = passed ≡ Err (of_edit refusal)

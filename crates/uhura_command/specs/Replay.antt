@@ -1,15 +1,13 @@
 -- A script that is read line by line, each line's command applied to the state that the line before it left.
 use Rattle.std.specs.Prelude.{◌≡◌, ℕ, List, [], ◌∷◌, map, Ok, Some}
 use Rattle.uhura_plan.specs.declared.requirement.Requirement.{Requirement}
-use Rattle.uhura_plan.specs.Lists.{Lists}
-use Rattle.uhura_plan.specs.Sound.{IsSound}
 use Rattle.uhura_text.specs.Lines.{lines}
 use Rattle.uhura_veto.specs.State.{State}
 use Rattle.uhura_line.specs.declared.command.Command.{Command}
 use Rattle.uhura_line.specs.Parses.{Parses}
 use Rattle.uhura_command.specs.Apply.{Applies}
-use Rattle.uhura_command.specs.Script.{script}
-use Rattle.uhura_command.specs.State.{empty_state}
+use Rattle.uhura_command.specs.Script.{veto_command, commands_of, script}
+use Rattle.uhura_command.specs.State.{empty_state, IsSoundState}
 
 -- a line is read as a command that makes a next state, from which the rest goes on
 pub record Step (state : State) (line : List ℕ) (Rest : State → Type 0) : Type 0 where
@@ -39,19 +37,35 @@ Makes state (c ∷ more) last = Move state c (λ next. Makes next more last)
 abbrev pub in_slot : ℕ → Requirement → Requirement
 in_slot slot requirement = record requirement { slot = slot }
 
--- two plans are the same but for the slots of their requirements
-pub record IsSameUpToSlots (a b : Lists) : Type 0 where
-  pub events : a.events ≡ b.events
-  pub uncertains : a.uncertains ≡ b.uncertains
-  pub choices : a.choices ≡ b.choices
-  pub requirements : map (in_slot 0) a.requirements ≡ map (in_slot 0) b.requirements
+-- two states are the same but for the slots of requirements: each veto is spelled alike, so that a cap names the
+-- requirement of the same name
+pub record IsSameUpToSlots (a b : State) : Type 0 where
+  pub events : a.plan.events ≡ b.plan.events
+  pub uncertains : a.plan.uncertains ≡ b.plan.uncertains
+  pub choices : a.plan.choices ≡ b.plan.choices
+  pub requirements : map (in_slot 0) a.plan.requirements ≡ map (in_slot 0) b.plan.requirements
+  pub vetoes : map (veto_command a.plan) a.vetoes ≡ map (veto_command b.plan) b.vetoes
 
--- a state that a script leaves, read from the empty state on, with this plan up to slots and no veto
-pub record ReadsBackAs (plan : Lists) (text : List ℕ) : Type 0 where
+-- these commands make the state, up to slots, from the empty state on
+pub record IsMadeBy (state : State) (cs : List Command) : Type 0 where
+  pub last : State
+  pub makes : Makes empty_state cs last
+  pub same : IsSameUpToSlots last state
+
+-- a script that is read from the empty state on leaves the state, up to slots
+pub record ReadsBackAs (state : State) (text : List ℕ) : Type 0 where
   pub last : State
   pub replays : Replays empty_state (lines text) last
-  pub same : IsSameUpToSlots last.plan plan
+  pub same : IsSameUpToSlots last state
 
--- the canonical script of a plan reads back as the plan
+-- the commands of a state make it
+abbrev pub CommandsMakeStates : Type 0
+CommandsMakeStates = (state : State) → IsSoundState state → IsMadeBy state (commands_of state)
+
+-- the canonical script of a state reads back as the state
 abbrev pub ScriptsReadBack : Type 0
-ScriptsReadBack = (plan : Lists) → IsSound plan → ReadsBackAs plan (script plan)
+ScriptsReadBack = (state : State) → IsSoundState state → ReadsBackAs state (script state)
+
+-- states that are the same up to slots have the same script
+abbrev pub SlotsAreNotWritten : Type 0
+SlotsAreNotWritten = (a b : State) → IsSameUpToSlots a b → script a ≡ script b

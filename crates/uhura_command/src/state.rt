@@ -1,6 +1,6 @@
 //! The state of a dialogue.
 ghost use Rattle.std.specs.Prelude.{◌≡◌, IfOk};
-ghost use Rattle.uhura_command.specs.State.{state_of, empty_state};
+ghost use Rattle.uhura_command.specs.State.{empty_state};
 
 mod apply;
 mod refusal;
@@ -8,21 +8,36 @@ mod script;
 
 pub use refusal::StateRefusal;
 use std::alloc::{AllocError, Global};
+use std::marker::Model;
 use uhura_plan::Plan;
+use uhura_veto::Vetoes;
 
-/// What the lines so far have made: a plan. Vetoes can't be made yet.
+/// What the lines so far have made: a plan, and vetoes, of which none can be made yet.
 #[derive(Drop)]
 pub struct State {
     pub plan: Plan,
+    pub vetoes: Vetoes,
+}
+
+impl Model for State {
+    ghost use Rattle.std.specs.Prelude.{◌≡◌, []};
+    ghost use Rattle.uhura_veto.specs.State as asked;
+
+    ghost Value = { asked.State };
+
+    ghost view = { λ s. record { plan = s.plan; vetoes = s.vetoes } };
+
+    ghost invariant = { λ s. s.vetoes ≡ [] };
 }
 
 impl State {
-    /// Nothing is planned.
+    /// Nothing is planned, and nothing is vetoed.
     pub fn new(alloc: Global) -> Result<State, AllocError>
-        ensures { IfOk result (λ state. state_of state ≡ empty_state) }
+        ensures { IfOk result (λ state. state ≡ empty_state) }
     {
         Ok(State {
             plan: Plan::new(alloc)?,
+            vetoes: Vetoes::new(alloc)?,
         })
     }
 
@@ -32,6 +47,7 @@ impl State {
     {
         Ok(State {
             plan: self.plan.copy()?,
+            vetoes: self.vetoes.copy()?,
         })
     }
 }

@@ -11,7 +11,7 @@ use Rattle.uhura_plan.specs.declared.key.Side.TheVariants.{Lower, Upper}
 use Rattle.uhura_plan.specs.declared.key.Item.{Item}
 use Rattle.uhura_plan.specs.declared.key.Item.TheVariants as item
 use Rattle.uhura_plan.specs.declared.key.EdgeKey.{EdgeKey}
-use Rattle.uhura_plan.specs.declared.key.EdgeKey.TheVariants.{Loose, Firm, Order}
+use Rattle.uhura_plan.specs.declared.key.EdgeKey.TheVariants.{Loose, Firm, Order, Steep}
 use Rattle.uhura_plan.specs.declared.requirement.Requirement.{Requirement}
 use Rattle.uhura_plan.specs.Lists.{slots}
 use Rattle.uhura_plan.specs.Find.{requirement_in}
@@ -19,97 +19,109 @@ use Rattle.uhura_choice.specs.declared.prefix.Pick.{Pick}
 use Rattle.uhura_choice.specs.Branch.{holds}
 use Rattle.uhura_net.specs.declared.edge.Edge.{Edge}
 use Rattle.uhura_net.specs.Edges.{chosen_edges}
-use Rattle.uhura_net.specs.Place.{firm_row, place_number, HasPlace}
+use Rattle.uhura_net.specs.declared.place.TheConstants.{PLACES, SLOTS}
+use Rattle.uhura_net.specs.Place.{firm_row, place_number, HasPlace, is_loose_key}
 use Rattle.uhura_veto.specs.State.{State}
 use Rattle.uhura_worst.specs.Edges.{requirement_edge, edge_of}
 use Rattle.uhura_worst.specs.Filled.{held, IsTableOf}
 use Rattle.uhura_worst.proofs.SoundItems.{Contains-found}
-use Rattle.uhura_session.specs.Chosen.{is_followed, AreFollowed, flag_of, firm_key, is_firm_of_duration, HasFixedFlags, ChoosesSlot, HasFlagsOf}
+use Rattle.uhura_session.specs.Chosen.{is_followed, AreFollowed, flag_of, firm_key, slot_key, is_duration, is_fixed, HasFixedFlags, ChoosesSlot, HasFlagsOf}
 use Rattle.uhura_session.proofs.Places.{slot-found}
 
--- the flags of the places so far say which edges are durations' and not loose
+-- the flags of the places so far say which edges are fixed
 abbrev pub AreFixedBelow : ℕ → List Bool → Type 0
-AreFixedBelow number chosen = (key : EdgeKey) → HasPlace key → place_number key < number → flag_of chosen key ≡ is_firm_of_duration key
+AreFixedBelow number chosen = (key : EdgeKey) → HasPlace key → place_number key < number → flag_of chosen key ≡ is_fixed key
+
+loose_not_fixed : (key : EdgeKey) → is_loose_key key ≡ true → is_fixed key ≡ false
+loose_not_fixed key loose = rw loose refl
 
 -- all places
-pub fixed-all : (chosen : List Bool) → length chosen ≡ 9472 → AreFixedBelow 9472 chosen → HasFixedFlags chosen
+pub fixed-all : (chosen : List Bool) → length chosen ≡ PLACES → AreFixedBelow PLACES chosen → HasFixedFlags chosen
 fixed-all chosen places all = record {
   places = places;
-  loose = λ key placed. all (Loose key) placed (below (Loose key) placed);
-  firm = λ d side placed. all (firm_key (item.Uncertain d) side) placed (below (firm_key (item.Uncertain d) side) placed);
-  order = λ d placed. all (Order d) placed (below (Order d) placed);
+  loose = λ key placed loose. all key placed (below key placed) ∙ loose_not_fixed key loose;
+  fixed = λ key placed fixed. all key placed (below key placed) ∙ fixed;
 }
   where
-    below : (key : EdgeKey) → HasPlace key → place_number key < 9472
-    below key placed = search rules
+    below : (key : EdgeKey) → HasPlace key → place_number key < PLACES
+    below (Loose key) placed = search rules
+    below (Firm key) placed = search rules
+    below (Order d) placed = search rules
+    below (Steep key) placed = search rules
 
 -- a write at a firm edge of a requirement leaves each other edge
-left : (old : List Bool) (slot : ℕ) (side : Side) (active : Bool) (key : EdgeKey) → place_number key ≢ place_number (firm_key (item.Requirement slot) side) →
-    flag_of (set old (place_number (firm_key (item.Requirement slot) side)) active) key ≡ flag_of old key
-left old slot side active key other = get_or-set_other old (place_number (firm_key (item.Requirement slot) side)) (place_number key) active false other
-
--- it is elsewhere than a loose edge, an order edge and a firm edge of another item
-apart-loose : (slot : ℕ) (side other : Side) (of : Item) → slot < 2048 → place_number (Loose (record { item = of; side = other })) ≢ place_number (firm_key (item.Requirement slot) side)
-apart-loose slot side other of placed = λ same. search rules
+left : (old : List Bool) (slot : ℕ) (side : Side) (active : Bool) (key : EdgeKey) → place_number key ≢ place_number (slot_key slot side) →
+    flag_of (set old (place_number (slot_key slot side)) active) key ≡ flag_of old key
+left old slot side active key other = get_or-set_other old (place_number (slot_key slot side)) (place_number key) active false other
 
 firm_row-small : (side : Side) → firm_row side ≤ 3
 firm_row-small Lower = omega arith
 firm_row-small Upper = omega arith
 
-apart-duration : (slot : ℕ) (side other : Side) (d : ℕ) → slot < 2048 → place_number (firm_key (item.Uncertain d) other) ≢ place_number (firm_key (item.Requirement slot) side)
-apart-duration slot side other d placed = λ same. omega (arith, firm_row-small side)
+-- it is elsewhere than a loose edge, and than an edge of a duration
+apart-loose : (slot : ℕ) (side : Side) (key : EdgeKey) → slot < SLOTS → is_loose_key key ≡ true → place_number key ≢ place_number (slot_key slot side)
+apart-loose slot side (Loose key) placed loose = λ same. search rules
+apart-loose slot side (Steep key) placed loose = λ same. search rules
+apart-loose slot side (Firm key) placed loose = let no : ⊥ = cc in absurd no
+apart-loose slot side (Order d) placed loose = let no : ⊥ = cc in absurd no
 
-apart-order : (slot : ℕ) (side : Side) (d : ℕ) → slot < 2048 → place_number (Order d) ≢ place_number (firm_key (item.Requirement slot) side)
-apart-order slot side d placed = λ same. omega (arith, firm_row-small side)
+apart-duration : (slot : ℕ) (side other : Side) (of : Item) → slot < SLOTS → is_duration of ≡ true → place_number (firm_key of other) ≢ place_number (slot_key slot side)
+apart-duration slot side other (item.Uncertain d) placed is = λ same. omega (arith, firm_row-small side)
+apart-duration slot side other (item.Requirement n) placed is = let no : ⊥ = cc in absurd no
 
-apart-slot : (slot other : ℕ) (side one : Side) → other ≢ slot → place_number (firm_key (item.Requirement other) one) ≢ place_number (firm_key (item.Requirement slot) side)
+apart-fixed : (slot : ℕ) (side : Side) (key : EdgeKey) → slot < SLOTS → is_fixed key ≡ true → place_number key ≢ place_number (slot_key slot side)
+apart-fixed slot side (Loose key) placed fixed = let no : ⊥ = cc in absurd no
+apart-fixed slot side (Steep key) placed fixed = let no : ⊥ = cc in absurd no
+apart-fixed slot side (Firm key) placed fixed = apart-duration slot side key.side key.item placed fixed
+apart-fixed slot side (Order d) placed fixed = λ same. omega (arith, firm_row-small side)
+
+apart-slot : (slot other : ℕ) (side one : Side) → other ≢ slot → place_number (slot_key other one) ≢ place_number (slot_key slot side)
 apart-slot slot other side one differs = λ same. differs (omega (arith, same, firm_row-small side, firm_row-small one))
 
-apart-side : (slot : ℕ) → place_number (firm_key (item.Requirement slot) Lower) ≢ place_number (firm_key (item.Requirement slot) Upper)
+apart-side : (slot : ℕ) → place_number (slot_key slot Lower) ≢ place_number (slot_key slot Upper)
 apart-side slot = λ same. omega arith
 
 -- fixed flags stay fixed
-fixed-left : (old : List Bool) (slot : ℕ) (side : Side) (active : Bool) → slot < 2048 → HasFixedFlags old → HasFixedFlags (set old (place_number (firm_key (item.Requirement slot) side)) active)
-fixed-left old slot side active placed fixed = record {
-  places = length-set old (place_number (firm_key (item.Requirement slot) side)) active ∙ fixed.places;
-  loose = λ key key_placed. left old slot side active (Loose key) (apart-loose slot side key.side key.item placed) ∙ fixed.loose key key_placed;
-  firm = λ d one d_placed. left old slot side active (firm_key (item.Uncertain d) one) (apart-duration slot side one d placed) ∙ fixed.firm d one d_placed;
-  order = λ d d_placed. left old slot side active (Order d) (apart-order slot side d placed) ∙ fixed.order d d_placed;
+fixed-left : (old : List Bool) (slot : ℕ) (side : Side) (active : Bool) → slot < SLOTS → HasFixedFlags old → HasFixedFlags (set old (place_number (slot_key slot side)) active)
+fixed-left old slot side active placed flags = record {
+  places = length-set old (place_number (slot_key slot side)) active ∙ flags.places;
+  loose = λ key key_placed loose. left old slot side active key (apart-loose slot side key placed loose) ∙ flags.loose key key_placed loose;
+  fixed = λ key key_placed fixed. left old slot side active key (apart-fixed slot side key placed fixed) ∙ flags.fixed key key_placed fixed;
 }
 
 -- the two sides of a requirement are written
-pub chooses-slot : (slot : ℕ) (active : Bool) (old mid new : List Bool) → length old ≡ 9472 → slot < 2048 →
-    mid ≡ set old (place_number (firm_key (item.Requirement slot) Lower)) active → new ≡ set mid (place_number (firm_key (item.Requirement slot) Upper)) active → ChoosesSlot slot active old new
+pub chooses-slot : (slot : ℕ) (active : Bool) (old mid new : List Bool) → length old ≡ PLACES → slot < SLOTS →
+    mid ≡ set old (place_number (slot_key slot Lower)) active → new ≡ set mid (place_number (slot_key slot Upper)) active → ChoosesSlot slot active old new
 chooses-slot slot active old mid new places placed first second = record {
   own = own;
   others = λ other side differs.
-      at second (firm_key (item.Requirement other) side)
-      ∙ left mid slot Upper active (firm_key (item.Requirement other) side) (apart-slot slot other Upper side differs)
-      ∙ at first (firm_key (item.Requirement other) side)
-      ∙ left old slot Lower active (firm_key (item.Requirement other) side) (apart-slot slot other Lower side differs);
+      at second (slot_key other side)
+      ∙ left mid slot Upper active (slot_key other side) (apart-slot slot other Upper side differs)
+      ∙ at first (slot_key other side)
+      ∙ left old slot Lower active (slot_key other side) (apart-slot slot other Lower side differs);
   fixed = λ fixed. subst HasFixedFlags (sym second) (fixed-left mid slot Upper active placed (subst HasFixedFlags (sym first) (fixed-left old slot Lower active placed fixed)));
 }
   where
     at : {xs ys : List Bool} → xs ≡ ys → (key : EdgeKey) → flag_of xs key ≡ flag_of ys key
     at same key = ap (λ (xs : List Bool). flag_of xs key) same
 
-    mid_places : length mid ≡ 9472
-    mid_places = ap (λ (xs : List Bool). length xs) first ∙ length-set old (place_number (firm_key (item.Requirement slot) Lower)) active ∙ places
+    mid_places : length mid ≡ PLACES
+    mid_places = ap (λ (xs : List Bool). length xs) first ∙ length-set old (place_number (slot_key slot Lower)) active ∙ places
 
-    own : (side : Side) → flag_of new (firm_key (item.Requirement slot) side) ≡ active
+    own : (side : Side) → flag_of new (slot_key slot side) ≡ active
     own Lower =
-        at second (firm_key (item.Requirement slot) Lower)
-        ∙ left mid slot Upper active (firm_key (item.Requirement slot) Lower) (apart-side slot)
-        ∙ at first (firm_key (item.Requirement slot) Lower)
-        ∙ get_or-set_same old (place_number (firm_key (item.Requirement slot) Lower)) active false (omega (arith, places))
+        at second (slot_key slot Lower)
+        ∙ left mid slot Upper active (slot_key slot Lower) (apart-side slot)
+        ∙ at first (slot_key slot Lower)
+        ∙ get_or-set_same old (place_number (slot_key slot Lower)) active false (omega (arith, places))
     own Upper =
-        at second (firm_key (item.Requirement slot) Upper)
-        ∙ get_or-set_same mid (place_number (firm_key (item.Requirement slot) Upper)) active false (omega (arith, mid_places))
+        at second (slot_key slot Upper)
+        ∙ get_or-set_same mid (place_number (slot_key slot Upper)) active false (omega (arith, mid_places))
 
 -- the flags of the first requirements
 abbrev pub HasFlagsBelow : ℕ → List Requirement → List Pick → List Bool → Type 0
 HasFlagsBelow count requirements branch chosen = (k : ℕ) (r : Requirement) (side : Side) → k < count → slice_get requirements k ≡ Some r →
-    flag_of chosen (firm_key (item.Requirement r.slot) side) ≡ holds r.guard branch
+    flag_of chosen (slot_key r.slot side) ≡ holds r.guard branch
 
 -- two requirements have two slots
 slots-differ : (requirements : List Requirement) (i j : ℕ) (a b : Requirement) → AllPairs ◌≢◌ (slots requirements) → slice_get requirements i ≡ Some a → slice_get requirements j ≡ Some b → i < j → a.slot ≢ b.slot
@@ -130,7 +142,7 @@ flags-more requirements branch i own old new distinct is so_far chooses k r side
       | inr behind ↦
           let last : k ≡ i = omega (arith, below, behind) in
           let same : own ≡ r = let there : Some own ≡ Some r = sym is ∙ ap (slice_get requirements) (sym last) ∙ at in cc in
-          let P : Requirement → Type 0 = λ q. flag_of new (firm_key (item.Requirement q.slot) side) ≡ holds q.guard branch in
+          let P : Requirement → Type 0 = λ q. flag_of new (slot_key q.slot side) ≡ holds q.guard branch in
           subst P same (chooses.own side)
     ]
 
@@ -145,7 +157,7 @@ nothing_either true of none = none
 nothing_either false of none = refl
 
 -- past the last place there is no edge
-pub chosen-past : (table : List (Option Edge)) (chosen : List Bool) (place : ℕ) → length chosen ≡ 9472 → 9472 ≤ place → chosen_edges table chosen place ≡ None
+pub chosen-past : (table : List (Option Edge)) (chosen : List Bool) (place : ℕ) → length chosen ≡ PLACES → PLACES ≤ place → chosen_edges table chosen place ≡ None
 chosen-past table chosen place places past =
     ap (λ (b : Bool). if b then get_or table place None else None) (get_or-eq_default chosen false (omega (arith, places, past)))
 
@@ -155,28 +167,29 @@ module _ (state : State) (branch : List Pick) (table : List (Option Edge)) (chos
   by_flag key flag placed is =
       ap (λ (b : Bool). if b then held table key else None) is ∙ ap (λ (edge : Option Edge). if flag then edge else None) (is_table key placed)
 
-  of_requirement : (slot : ℕ) (side : Side) (found : Option Requirement) → slot < 2048 → requirement_in state.plan slot ≡ found →
-      chosen_edges table chosen (place_number (firm_key (item.Requirement slot) side)) ≡
-      (if option_map_or (λ (r : Requirement). holds r.guard branch) found false then option_and_then (λ (r : Requirement). requirement_edge state.vetoes r (firm_key (item.Requirement slot) side)) found else None)
+  of_requirement : (slot : ℕ) (side : Side) (found : Option Requirement) → slot < SLOTS → requirement_in state.plan slot ≡ found →
+      chosen_edges table chosen (place_number (slot_key slot side)) ≡
+      (if option_map_or (λ (r : Requirement). holds r.guard branch) found false then option_and_then (λ (r : Requirement). requirement_edge state.vetoes r (slot_key slot side)) found else None)
   of_requirement slot side None placed found =
-      let none : held table (firm_key (item.Requirement slot) side) ≡ None =
-      is_table (firm_key (item.Requirement slot) side) placed ∙ ap (option_and_then (λ (r : Requirement). requirement_edge state.vetoes r (firm_key (item.Requirement slot) side))) found in
-      nothing_either (flag_of chosen (firm_key (item.Requirement slot) side)) (held table (firm_key (item.Requirement slot) side)) none
+      let none : held table (slot_key slot side) ≡ None =
+      is_table (slot_key slot side) placed ∙ ap (option_and_then (λ (r : Requirement). requirement_edge state.vetoes r (slot_key slot side))) found in
+      nothing_either (flag_of chosen (slot_key slot side)) (held table (slot_key slot side)) none
   of_requirement slot side (Some r) placed found =
       let member : Contains state.plan.requirements r = Contains-found _ state.plan.requirements r found in
-      let flag : flag_of chosen (firm_key (item.Requirement slot) side) ≡ holds r.guard branch =
-      ap (λ (n : ℕ). flag_of chosen (firm_key (item.Requirement n) side)) (sym (slot-found state.plan slot r found)) ∙ flags r side member in
-      by_flag (firm_key (item.Requirement slot) side) (holds r.guard branch) placed flag
-      ∙ ap (λ (o : Option Requirement). if holds r.guard branch then option_and_then (λ (q : Requirement). requirement_edge state.vetoes q (firm_key (item.Requirement slot) side)) o else None) found
+      let flag : flag_of chosen (slot_key slot side) ≡ holds r.guard branch =
+      ap (λ (n : ℕ). flag_of chosen (slot_key n side)) (sym (slot-found state.plan slot r found)) ∙ flags r side member in
+      by_flag (slot_key slot side) (holds r.guard branch) placed flag
+      ∙ ap (λ (o : Option Requirement). if holds r.guard branch then option_and_then (λ (q : Requirement). requirement_edge state.vetoes q (slot_key slot side)) o else None) found
 
   of_side : (of : Item) (side : Side) → HasPlace (firm_key of side) →
       chosen_edges table chosen (place_number (firm_key of side)) ≡ (if is_followed state.plan branch (firm_key of side) then edge_of state (firm_key of side) else None)
-  of_side (item.Uncertain d) side placed = by_flag (firm_key (item.Uncertain d) side) true placed (fixed.firm d side placed)
+  of_side (item.Uncertain d) side placed = by_flag (firm_key (item.Uncertain d) side) true placed (fixed.fixed (firm_key (item.Uncertain d) side) placed refl)
   of_side (item.Requirement slot) side placed =
       of_requirement slot side (requirement_in state.plan slot) placed refl
 
   -- the flags choose the edges that are followed
   pub chosen-followed : AreFollowed state branch (chosen_edges table chosen)
-  chosen-followed (Loose key) placed = by_flag (Loose key) false placed (fixed.loose key placed)
+  chosen-followed (Loose key) placed = by_flag (Loose key) false placed (fixed.loose (Loose key) placed refl)
+  chosen-followed (Steep key) placed = by_flag (Steep key) false placed (fixed.loose (Steep key) placed refl)
   chosen-followed (Firm key) placed = of_side key.item key.side placed
-  chosen-followed (Order d) placed = by_flag (Order d) true placed (fixed.order d placed)
+  chosen-followed (Order d) placed = by_flag (Order d) true placed (fixed.fixed (Order d) placed refl)

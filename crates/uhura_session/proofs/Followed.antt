@@ -8,6 +8,7 @@ use Rattle.uhura_plan.specs.Sound.{IsSound}
 use Rattle.uhura_choice.specs.declared.prefix.Pick.{Pick}
 use Rattle.uhura_net.specs.declared.edge.Edge.{Edge}
 use Rattle.uhura_net.specs.declared.place.Place.{Place}
+use Rattle.uhura_net.specs.declared.place.TheConstants.{PLACES}
 use Rattle.uhura_net.specs.Edges.{Edges, KeepsAt, Meets, MeetsAt}
 use Rattle.uhura_net.specs.Place.{place_number, StandsAt, is_loose_key}
 use Rattle.uhura_net.specs.Walk.{IsNegativeWalk}
@@ -50,14 +51,14 @@ module _ (state : State) (branch : List Pick) (edges : Edges) (followed : AreFol
       keeps key edge parts.0 parts.1 parts.2
 
   -- and so meet the edges
-  keep-meet : (times : ℕ → ℤ) → ((place : ℕ) → 9472 ≤ place → edges place ≡ None) → KeepsFirmEdges state 1 branch times → MeetsAt 1 edges times
+  keep-meet : (times : ℕ → ℤ) → ((place : ℕ) → PLACES ≤ place → edges place ≡ None) → KeepsFirmEdges state 1 branch times → MeetsAt 1 edges times
   keep-meet times past keeps place edge is =
-      elim (cases_lt place 9472) [
+      elim (cases_lt place PLACES) [
         | inl below ↦ let found : (key : EdgeKey) × StandsAt place key = key_at place below in kept-at times place edge found.0 keeps is found.1
         | inr behind ↦ absurd (let nothing : edges place ≡ None = past place behind in let never : ⊥ = cc in never)
       ]
 
   -- so a closed walk of the edges whose bounds sum below 0 leaves no times
-  pub walk-leaves_none : (places : List Place) → ((place : ℕ) → 9472 ≤ place → edges place ≡ None) → IsNegativeWalk edges places → HasTimes state branch → ⊥
+  pub walk-leaves_none : (places : List Place) → ((place : ℕ) → PLACES ≤ place → edges place ≡ None) → IsNegativeWalk edges places → HasTimes state branch → ⊥
   walk-leaves_none places past walk times =
       none_meet_in_parts 1 edges places times.0 (omega arith) (keep-meet times.0 past times.1) walk

@@ -13,3 +13,4 @@ pub mod UnloosenedText
 pub mod Conversing
 pub mod AnswersEdits
 pub mod ShowReplays
+pub mod Refusals

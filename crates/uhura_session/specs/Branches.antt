@@ -18,12 +18,19 @@ pub record IsOpen (state : State) (branch : List Pick) : Type 0 where
   pub times : ℕ → ℤ
   pub keeps : KeepsFirmEdges state 1 branch times
 
+-- what the alternatives cost that a branch picks in a state
+abbrev pub cost_of : State → List Pick → ℕ
+cost_of state branch = picked_cost state.plan.choices branch
+
 -- an open branch of some kind: no open branch of that kind costs less, and none that is earlier costs as little
-pub record IsFirstCheapest (Kind : List Pick → Type 0) (state : State) (branch : List Pick) : Type 0 where
+pub record IsFirstCheapest (Kind : List Pick → Type 0) (state : State)
+    (branch : List Pick) : Type 0 where
   pub open_branch : IsOpen state branch
   pub kind : Kind branch
-  pub cheapest : (other : List Pick) → Kind other → IsOpen state other → picked_cost state.plan.choices branch ≤ picked_cost state.plan.choices other
-  pub first : (other : List Pick) → Kind other → IsOpen state other → IsEarlier other branch → picked_cost state.plan.choices branch < picked_cost state.plan.choices other
+  pub cheapest : (other : List Pick) → Kind other → IsOpen state other →
+      cost_of state branch ≤ cost_of state other
+  pub first : (other : List Pick) → Kind other → IsOpen state other → IsEarlier other branch →
+      cost_of state branch < cost_of state other
 
 -- the first cheapest open branch of this kind, or none exactly where no branch of this kind is open
 abbrev pub IsBestOf : (List Pick → Type 0) → State → Option (List Pick) → Type 0
@@ -42,4 +49,5 @@ CostsLess plan (Some best) branch = picked_cost plan.choices branch < picked_cos
 -- the branch is chosen in place of the best so far exactly where it costs less and is open
 abbrev pub IsBetter : State → Option (List Pick) → List Pick → Option (List Pick) → Type 0
 IsBetter state best branch chosen =
-    (CostsLess state.plan best branch × IsOpen state branch × (chosen ≡ Some branch)) ⊎ ((CostsLess state.plan best branch → IsOpen state branch → ⊥) × (chosen ≡ best))
+    (CostsLess state.plan best branch × IsOpen state branch × (chosen ≡ Some branch))
+    ⊎ ((CostsLess state.plan best branch → IsOpen state branch → ⊥) × (chosen ≡ best))

@@ -2,9 +2,9 @@ pub mod ProposalText
 pub mod Answers
 pub mod Session
 pub mod Chosen
-pub mod Free
 pub mod Unpriced
 pub mod Branches
 pub mod Transcript
 pub mod Line
 pub mod ReadsBack
+pub mod Refused

@@ -5,9 +5,10 @@ use Rattle.uhura_veto.specs.State.{State}
 use Rattle.uhura_command.specs.State.{empty_state}
 use Rattle.uhura_session.specs.Answers.{Answers}
 
--- the text is a line's answer and then the rest's, which begins in the state that the line left; `refused` tells whether
--- some line was refused
-pub record Turn (state : State) (line text : List ℕ) (refused : Bool) (Rest : State → List ℕ → Bool → Type 0) : Type 0 where
+-- the text is a line's answer and then the rest's, which begins in the state that the line left; `refused` tells
+-- whether some line was refused
+pub record Turn (state : State) (line text : List ℕ) (refused : Bool)
+    (Rest : State → List ℕ → Bool → Type 0) : Type 0 where
   pub answer : List ℕ
   pub answer_refused : Bool
   pub next : State
@@ -22,7 +23,8 @@ pub record Turn (state : State) (line text : List ℕ) (refused : Bool) (Rest : 
 unfoldable pub Conversation : State → List (List ℕ) → List ℕ → Bool → State → Type 0
 Conversation state [] text refused last = (text ≡ []) × (refused ≡ false) × (last ≡ state)
 Conversation state (line ∷ ls) text refused last =
-    Turn state line text refused (λ next after after_refused. Conversation next ls after after_refused last)
+    Turn state line text refused
+    (λ next after after_refused. Conversation next ls after after_refused last)
 
 -- the text answers the lines of the bytes from the empty state on; `refused` tells whether some line was refused
 pub record Transcript (bytes text : List ℕ) (refused : Bool) : Type 0 where

@@ -1,17 +1,17 @@
-//! Flags that choose the edges that are followed in a branch. Those of durations are the same in each branch, and from
-//! branch to branch only those of requirements change.
+//! Flags that choose the edges that are followed in a branch. Those of durations are the same in each branch, and
+//! from branch to branch only those of requirements change.
 ghost use Rattle.std.specs.Prelude.{◌≡◌, ◌<◌, length, IfOk, slice_set};
-ghost use Rattle.uhura_plan.specs.declared.key.Item.TheVariants as item;
 ghost use Rattle.uhura_plan.specs.Sound.{IsSound};
-ghost use Rattle.uhura_net.specs.Place.{place_number, HasPlace};
-ghost use Rattle.uhura_session.specs.Chosen.{HasFixedFlags, HasFlagsOf, ChoosesSlot, firm_key, is_duration, is_firm_of_duration};
+ghost use Rattle.uhura_net.specs.declared.place.TheConstants.{SLOTS};
+ghost use Rattle.uhura_net.specs.Place.{place_number};
+ghost use Rattle.uhura_session.specs.Chosen.{HasFixedFlags, HasFlagsOf, ChoosesSlot, slot_key, is_fixed};
 
 use std::alloc::{AllocError, Global};
 use uhura_choice::{Branch, holds};
 use uhura_net::{PLACES, Place, key_of, place_of};
 use uhura_plan::{EdgeKey, Item, Plan, Side, SideKey};
 
-/// A flag for each place, with the durations' edges chosen and no others.
+/// A flag for each place, with the durations' edges that aren't loose chosen and no others.
 pub fn fixed_flags(alloc: Global) -> Result<Vec<bool>, AllocError>
     ensures { IfOk result (λ chosen. HasFixedFlags chosen.items) }
 {
@@ -26,24 +26,19 @@ fn choose_durations(chosen: &mut [bool])
     ensures { HasFixedFlags chosen.new }
 {
     for number in 0..PLACES as u32 {
-        chosen[number as usize] = is_firm_of_duration(key_of(Place(number)));
+        chosen[number as usize] = is_fixed(key_of(Place(number)));
     }
 }
 
-fn is_firm_of_duration(key: EdgeKey) -> bool
-    ensures { result ≡ is_firm_of_duration key }
+/// Whether the edge is one of a duration and not loose.
+fn is_fixed(key: EdgeKey) -> bool
+    ensures { result ≡ is_fixed key }
 {
     match key {
-        EdgeKey::Loose(_) => false,
-        EdgeKey::Firm(side) => is_duration(side.item),
+        EdgeKey::Loose(_) | EdgeKey::Steep(_) => false,
+        EdgeKey::Firm(side) => matches!(side.item, Item::Uncertain(_)),
         EdgeKey::Order(_) => true,
     }
-}
-
-fn is_duration(item: Item) -> bool
-    ensures { result ≡ is_duration item }
-{
-    matches!(item, Item::Uncertain(_))
 }
 
 /// Chooses of the requirements those that are active in the branch. The work is linear in the requirements.
@@ -62,7 +57,7 @@ pub fn choose_active(chosen: &mut [bool], plan: &Plan, branch: &Branch)
 /// Chooses the requirement in this slot where it is active, and otherwise not.
 fn choose_slot(chosen: &mut [bool], slot: u32, active: bool)
     requires places { length chosen.old ≡ PLACES }
-    requires slot { slot < 2048 }
+    requires slot { slot < SLOTS }
     ensures { ChoosesSlot slot active chosen.old chosen.new }
 {
     choose_side(chosen, slot, Side::Lower, active);
@@ -72,8 +67,8 @@ fn choose_slot(chosen: &mut [bool], slot: u32, active: bool)
 /// Sets the flag of the edge of a side that isn't loose.
 fn choose_side(chosen: &mut [bool], slot: u32, side: Side, active: bool)
     requires places { length chosen.old ≡ PLACES }
-    requires slot { slot < 2048 }
-    ensures { chosen.new ≡ slice_set chosen.old (place_number (firm_key (item.Requirement slot) side)) active }
+    requires slot { slot < SLOTS }
+    ensures { chosen.new ≡ slice_set chosen.old (place_number (slot_key slot side)) active }
 {
     let key = SideKey {
         item: Item::Requirement(slot),

@@ -4,7 +4,6 @@
 mod answer;
 mod branches;
 mod edit;
-mod error;
 mod flags;
 pub mod law;
 mod proposal;

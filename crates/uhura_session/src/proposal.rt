@@ -2,7 +2,7 @@
 ghost use Rattle.std.specs.Prelude.{◌≡◌, ◌≤◌, ◌++◌, [], ◌∷◌, length, pos, IfOk, codes};
 ghost use Rattle.uhura_text.specs.Number.{spelling};
 ghost use Rattle.uhura_line.specs.Written.{line_of};
-ghost use Rattle.uhura_relax.specs.Schedule.{proposal_with, scheduled};
+ghost use Rattle.uhura_relax.specs.Schedule.{proposal_with, scheduled_time};
 ghost use Rattle.uhura_session.specs.ProposalText.{alternative_name, pick_lines, time_lines, proposal_text};
 
 use std::alloc::AllocError;
@@ -13,7 +13,8 @@ use uhura_text::put_number;
 
 /// Appends the line of an event's time.
 fn put_time(text: &mut Vec<u8>, name: Name, time: u64) -> Result<(), AllocError>
-    ensures { IfOk result (λ _. text.new.items ≡ text.old.items ++ line_of (codes "at" ∷ name ∷ spelling (pos time) ∷ [])) }
+    ensures { IfOk result (λ _. text.new.items ≡
+        text.old.items ++ line_of (codes "at" ∷ name ∷ spelling (pos time) ∷ [])) }
 {
     text.extend_from_slice(b"at ")?;
     text.extend_from_slice(name.bytes())?;
@@ -25,7 +26,8 @@ fn put_time(text: &mut Vec<u8>, name: Name, time: u64) -> Result<(), AllocError>
 
 /// Appends the lines of the times of all events.
 fn put_times(text: &mut Vec<u8>, plan: &Plan, schedule: &Schedule) -> Result<(), AllocError>
-    ensures { IfOk result (λ _. text.new.items ≡ text.old.items ++ time_lines (scheduled schedule.now) 0 plan.now.events) }
+    ensures { IfOk result (λ _. text.new.items ≡
+        text.old.items ++ time_lines (scheduled_time schedule.now) 0 plan.now.events) }
 {
     for event in 0..plan.events() {
         if let Some(name) = plan.event(event) {
@@ -37,7 +39,8 @@ fn put_times(text: &mut Vec<u8>, plan: &Plan, schedule: &Schedule) -> Result<(),
 
 /// Appends the line of a pick: none where the choice isn't active.
 fn put_pick(text: &mut Vec<u8>, choice: &Choice, pick: Pick) -> Result<(), AllocError>
-    ensures { IfOk result (λ _. text.new.items ≡ text.old.items ++ pick_lines (choice.now ∷ []) (pick ∷ [])) }
+    ensures { IfOk result (λ _. text.new.items ≡
+        text.old.items ++ pick_lines (choice.now ∷ []) (pick ∷ [])) }
 {
     if let Pick::Alternative(alternative) = pick {
         text.extend_from_slice(b"pick ")?;
@@ -51,7 +54,8 @@ fn put_pick(text: &mut Vec<u8>, choice: &Choice, pick: Pick) -> Result<(), Alloc
 
 /// Appends the name of an alternative of the choice.
 fn put_alternative(text: &mut Vec<u8>, choice: &Choice, alternative: u32) -> Result<(), AllocError>
-    ensures { IfOk result (λ _. text.new.items ≡ text.old.items ++ alternative_name choice.now alternative) }
+    ensures { IfOk result (λ _. text.new.items ≡
+        text.old.items ++ alternative_name choice.now alternative) }
 {
     if let Some((name, _)) = choice.alternatives.as_slice().get(alternative as usize) {
         text.extend_from_slice(name.bytes())?;
@@ -62,7 +66,8 @@ fn put_alternative(text: &mut Vec<u8>, choice: &Choice, alternative: u32) -> Res
 /// Appends the lines of the picks.
 fn put_picks(text: &mut Vec<u8>, plan: &Plan, picks: &[Pick]) -> Result<(), AllocError>
     requires { length picks.now ≤ 16 }
-    ensures { IfOk result (λ _. text.new.items ≡ text.old.items ++ pick_lines plan.now.choices picks.now) }
+    ensures { IfOk result (λ _. text.new.items ≡
+        text.old.items ++ pick_lines plan.now.choices picks.now) }
 {
     for place in 0..picks.len() as u32 {
         if let Some(choice) = plan.choice(place) {
@@ -74,7 +79,8 @@ fn put_picks(text: &mut Vec<u8>, plan: &Plan, picks: &[Pick]) -> Result<(), Allo
 
 /// Appends the line of the cost.
 fn put_cost(text: &mut Vec<u8>, cost: u64) -> Result<(), AllocError>
-    ensures { IfOk result (λ _. text.new.items ≡ text.old.items ++ line_of (codes "proposal" ∷ spelling (pos cost) ∷ [])) }
+    ensures { IfOk result (λ _. text.new.items ≡
+        text.old.items ++ line_of (codes "proposal" ∷ spelling (pos cost) ∷ [])) }
 {
     text.extend_from_slice(b"proposal ")?;
     put_number(text, i128::from(cost))?;
@@ -90,7 +96,8 @@ pub fn put_proposal(
     schedule: &Schedule,
 ) -> Result<(), AllocError>
     requires empty { text.old.items ≡ [] }
-    ensures { IfOk result (λ _. text.new.items ≡ proposal_text plan.now (proposal_with branch.now [] (scheduled schedule.now))) }
+    ensures { IfOk result (λ _. text.new.items ≡ proposal_text plan.now
+        (proposal_with branch.now [] (scheduled_time schedule.now))) }
 {
     put_cost(text, picked_cost(plan, branch))?;
     put_picks(text, plan, branch.entries())?;

@@ -2,19 +2,19 @@
 ghost use Rattle.std.specs.Prelude.{◌≡◌, [], true, IfOk};
 ghost use Rattle.std.specs.List.{list_all};
 ghost use Rattle.uhura_plan.specs.Sound.{IsSound};
+ghost use Rattle.uhura_plan.specs.Sides.{loosening_rate, rate_of};
 ghost use Rattle.uhura_relax.specs.Schedule.{IsEarliestSchedule};
-ghost use Rattle.uhura_session.specs.Answers.{AnswersQuestion, IsProposed, is_unpriced, is_unrated, is_unpriced_plan};
+ghost use Rattle.uhura_session.specs.Answers.{AnswersQuestion, IsProposed, is_rateless, is_unpriced_plan};
 ghost use Rattle.uhura_session.specs.Branches.{IsOpen};
-ghost use Rattle.uhura_session.specs.Free.{free};
 ghost use Rattle.uhura_session.specs.Unpriced.{IsUnpriced};
 
 use crate::branches::best_branch;
-use crate::error::put_unbuilt;
 use crate::proposal::put_proposal;
 use crate::solver::Solver;
 use std::alloc::{AllocError, Global};
 use uhura_choice::Branch;
-use uhura_plan::{Plan, Requirement, Uncertain};
+use uhura_command::{State, put_unbuilt};
+use uhura_plan::{Plan, Requirement, Side, Uncertain};
 use uhura_relax::{RelaxRefusal, Schedule};
 use uhura_veto::Vetoes;
 
@@ -22,17 +22,20 @@ use uhura_veto::Vetoes;
 /// the next.
 pub fn propose(
     alloc: Global,
-    plan: &Plan,
-    vetoes: &Vetoes,
+    state: &State,
     solver: &mut Solver,
     text: &mut Vec<u8>,
 ) -> Result<bool, AllocError>
-    requires free { vetoes.now ≡ [] }
     requires empty { text.old.items ≡ [] }
-    ensures { IfOk result (λ refused. AnswersQuestion (is_unpriced_plan plan.now) (free plan.now) text.new.items refused (free plan.now)) }
+    ensures { IfOk result (λ refused.
+        AnswersQuestion (is_unpriced_plan state.now.plan) state.now (record {
+          text = text.new.items;
+          refused = refused;
+          next = state.now;
+        })) }
 {
-    if is_unpriced_plan(plan) {
-        put_answer(alloc, plan, vetoes, solver, text)?;
+    if is_unpriced_plan(&state.plan) {
+        put_answer(alloc, &state.plan, &state.vetoes, solver, text)?;
         Ok(false)
     } else {
         put_unbuilt(text)?;
@@ -49,9 +52,10 @@ fn put_answer(
     text: &mut Vec<u8>,
 ) -> Result<(), AllocError>
     requires unpriced { IsUnpriced plan.now }
-    requires free { vetoes.now ≡ [] }
+    requires unvetoed { vetoes.now ≡ [] }
     requires empty { text.old.items ≡ [] }
-    ensures { IfOk result (λ _. IsProposed (free plan.now) text.new.items) }
+    ensures { IfOk result (λ _.
+        IsProposed (record { plan = plan.now; vetoes = [] }) text.new.items) }
 {
     match best_branch(plan, vetoes, solver) {
         Some(branch) => {
@@ -66,8 +70,8 @@ fn put_answer(
     }
 }
 
-/// The earliest schedule of an open branch, with nothing loosened or narrowed. There is one: without prices an edge that
-/// isn't loose has the bound of its side, so times that keep such edges pass no bound.
+/// The earliest schedule of an open branch, with nothing loosened or narrowed. There is one: without prices an edge
+/// that isn't loose has the bound of its side, so times that keep such edges pass no bound.
 fn schedule_branch(
     alloc: Global,
     plan: &Plan,
@@ -75,7 +79,7 @@ fn schedule_branch(
     solver: &mut Solver,
 ) -> Result<Schedule, AllocError>
     requires unpriced { IsUnpriced plan.now }
-    requires open_branch { IsOpen (free plan.now) branch.now }
+    requires open_branch { IsOpen (record { plan = plan.now; vetoes = [] }) branch.now }
     ensures { IfOk result (λ schedule. IsEarliestSchedule plan.now branch.now [] schedule) }
 {
     match solver.schedule(alloc, plan, branch) {
@@ -96,7 +100,8 @@ fn is_unpriced_plan(plan: &Plan) -> bool
 
 /// Whether no requirement has a price.
 fn has_no_price(plan: &Plan) -> bool
-    ensures test { result ≡ list_all is_unpriced plan.now.requirements }
+    ensures test { result ≡
+        list_all (λ r. is_rateless (λ side. loosening_rate side r)) plan.now.requirements }
     ensures sound { IsSound plan.now }
 {
     for position in 0..plan.requirements() {
@@ -110,7 +115,7 @@ fn has_no_price(plan: &Plan) -> bool
 
 /// Whether no duration has a rate.
 fn has_no_rate(plan: &Plan) -> bool
-    ensures { result ≡ list_all is_unrated plan.now.uncertains }
+    ensures { result ≡ list_all (λ u. is_rateless (λ side. rate_of side u)) plan.now.uncertains }
 {
     for duration in 0..plan.uncertains() {
         let uncertain = plan.uncertain(duration).unwrap();
@@ -123,14 +128,14 @@ fn has_no_rate(plan: &Plan) -> bool
 
 /// Whether neither side of the requirement has a price.
 fn is_unpriced(requirement: &Requirement) -> bool
-    ensures { result ≡ is_unpriced requirement.now }
+    ensures { result ≡ is_rateless (λ side. loosening_rate side requirement.now) }
 {
-    requirement.lower.price.is_none() && requirement.upper.price.is_none()
+    requirement.rate(Side::Lower).is_none() && requirement.rate(Side::Upper).is_none()
 }
 
 /// Whether neither side of the duration has a rate.
 fn is_unrated(uncertain: &Uncertain) -> bool
-    ensures { result ≡ is_unrated uncertain.now }
+    ensures { result ≡ is_rateless (λ side. rate_of side uncertain.now) }
 {
-    uncertain.lower_rate.is_none() && uncertain.upper_rate.is_none()
+    uncertain.rate(Side::Lower).is_none() && uncertain.rate(Side::Upper).is_none()
 }

@@ -1,40 +1,32 @@
 //! The session: the state that the lines so far left, and the text of the last answer.
 ghost use Rattle.std.specs.Prelude.{◌≡◌, [], IfOk, OnErr};
 ghost use Rattle.uhura_line.specs.Reads.{IsCommand};
-ghost use Rattle.uhura_command.specs.State.{state_of, empty_state};
+ghost use Rattle.uhura_command.specs.State.{empty_state};
 ghost use Rattle.uhura_session.specs.Answers.{Answers, AnswersCommand};
 
 use crate::Answer;
 use crate::edit::edit;
-use crate::error::{put_line_error, put_unbuilt};
 use crate::propose::propose;
 use crate::solver::Solver;
 use std::alloc::{AllocError, Global};
 use std::marker::Model;
-use uhura_command::{Command, State, parse};
-use uhura_veto::Vetoes;
+use uhura_command::{Command, State, parse, put_line_error, put_unbuilt};
 
-/// A dialogue: the state as the lines so far made it. It keeps its memory from one line to the next. No line makes a veto
-/// yet, so it has none.
+/// A dialogue: the state as the lines so far made it. It keeps its memory from one line to the next.
 #[derive(Drop)]
 pub struct Session {
     alloc: Global,
     state: State,
-    vetoes: Vetoes,
     solver: Solver,
     text: Vec<u8>,
 }
 
 impl Model for Session {
-    ghost use Rattle.std.specs.Prelude.{◌≡◌, []};
-    ghost use Rattle.uhura_command.specs.State.{state_of};
     ghost use Rattle.uhura_session.specs.Session.{Dialogue};
 
     ghost Value = { Dialogue };
 
-    ghost view = { λ s. record { state = state_of s.state; text = s.text.items } };
-
-    ghost invariant = { λ s. s.vetoes ≡ [] };
+    ghost view = { λ s. record { state = s.state; text = s.text.items } };
 }
 
 impl Session {
@@ -48,7 +40,6 @@ impl Session {
         Ok(Session {
             alloc,
             state: State::new(alloc)?,
-            vetoes: Vetoes::new(alloc)?,
             solver: Solver::new(alloc)?,
             text: Vec::new(alloc),
         })
@@ -68,14 +59,15 @@ impl Session {
 
     /// The state that the lines so far left.
     pub fn state(&self) -> &State
-        ensures { state_of result.now ≡ self.now.state }
+        ensures { result.now ≡ self.now.state }
     {
         &self.state
     }
 
     /// Answers a line into the text, and says whether it was refused.
     fn answer(&mut self, line: &[u8]) -> Result<bool, AllocError>
-        ensures ok { IfOk result (λ refused. Answers self.old.state line.now self.new.text refused self.new.state) }
+        ensures ok { IfOk result (λ refused.
+            Answers self.old.state line.now self.new.text refused self.new.state) }
         ensures err { OnErr result (self.new.state ≡ self.old.state) }
     {
         self.text.clear();
@@ -94,7 +86,12 @@ impl Session {
     fn answer_command(&mut self, command: &Command) -> Result<bool, AllocError>
         requires empty { self.old.text ≡ [] }
         requires command { IsCommand command.now }
-        ensures ok { IfOk result (λ refused. AnswersCommand command.now self.old.state self.new.text refused self.new.state) }
+        ensures ok { IfOk result (λ refused.
+            AnswersCommand command.now self.old.state (record {
+              text = self.new.text;
+              refused = refused;
+              next = self.new.state;
+            })) }
         ensures err { OnErr result (self.new.state ≡ self.old.state) }
     {
         match command {
@@ -103,13 +100,9 @@ impl Session {
                 self.text.extend_from_slice(b"# end\n")?;
                 Ok(false)
             }
-            Command::Propose => propose(
-                self.alloc,
-                &self.state.plan,
-                &self.vetoes,
-                &mut self.solver,
-                &mut self.text,
-            ),
+            Command::Propose => {
+                propose(self.alloc, &self.state, &mut self.solver, &mut self.text)
+            }
             Command::Prove => {
                 put_unbuilt(&mut self.text)?;
                 Ok(true)

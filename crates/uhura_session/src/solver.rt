@@ -1,10 +1,10 @@
-//! The solver: a question fills it once, and then it is asked about one branch after another, and last for the schedule of
-//! the best.
+//! The solver: a question fills it once, and then it is asked about one branch after another, and last for the
+//! schedule of the best.
 ghost use Rattle.std.specs.Prelude.{◌≡◌, List, [], MatchBool};
 ghost use Rattle.uhura_veto.specs.declared.veto.Veto.{Veto};
 ghost use Rattle.uhura_veto.specs.State.{State};
 ghost use Rattle.uhura_worst.specs.Filled.{IsTableOf};
-ghost use Rattle.uhura_relax.specs.Schedule.{LeavesSome, IsRelaxed};
+ghost use Rattle.uhura_relax.specs.Schedule.{LeavesSome, GivesEarliest};
 ghost use Rattle.uhura_session.specs.Branches.{HasTimes};
 
 use crate::flags::{choose_active, fixed_flags};
@@ -58,11 +58,14 @@ impl Solver {
         fill(&mut self.table, plan, vetoes);
     }
 
-    /// Whether some times of the nodes keep each edge of the branch that isn't loose. The edges are to be those of the
-    /// plan.
+    /// Whether some times of the nodes keep each edge of the branch that isn't loose. The edges are to be those of
+    /// the plan.
     pub fn has_times(&mut self, plan: &Plan, branch: &Branch) -> bool
-        ensures answer { (vetoes : List Veto) → IsTableOf (record { plan = plan.now; vetoes = vetoes }) self.old →
-            MatchBool result (HasTimes (record { plan = plan.now; vetoes = vetoes }) branch.now) (HasTimes (record { plan = plan.now; vetoes = vetoes }) branch.now → ⊥) }
+        ensures answer { (vetoes : List Veto) →
+            IsTableOf (record { plan = plan.now; vetoes = vetoes }) self.old →
+            MatchBool result
+            (HasTimes (record { plan = plan.now; vetoes = vetoes }) branch.now)
+            (HasTimes (record { plan = plan.now; vetoes = vetoes }) branch.now → ⊥) }
         ensures edges { self.new ≡ self.old }
     {
         choose_active(&mut self.chosen, plan, branch);
@@ -72,8 +75,8 @@ impl Solver {
         )
     }
 
-    /// The earliest schedule of the branch with nothing loosened or narrowed, or why there is none. The edges that the
-    /// solver holds don't matter.
+    /// The earliest schedule of the branch with nothing loosened or narrowed, or why there is none. The edges that
+    /// the solver holds don't matter.
     pub fn schedule(
         &mut self,
         alloc: Global,
@@ -81,7 +84,7 @@ impl Solver {
         branch: &Branch,
     ) -> Result<Schedule, RelaxRefusal>
         requires { LeavesSome plan.now branch.now [] }
-        ensures { IsRelaxed plan.now branch.now [] result }
+        ensures { GivesEarliest plan.now branch.now [] result }
     {
         let nothing = Loosening::new(alloc);
         earliest_in(alloc, plan, branch, &nothing, &mut self.relax)

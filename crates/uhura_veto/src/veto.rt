@@ -3,7 +3,7 @@ use uhura_plan::{Guard, Name, SideKey};
 
 /// A combination of picks that no proposal may have, or the most units, from 0 to 1,000,000,000, that a
 /// side may be loosened or narrowed by.
-#[derive(Drop)]
+#[derive(Clone, Drop)]
 pub enum Veto {
     Deny {
         name: Name,

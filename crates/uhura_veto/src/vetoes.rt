@@ -2,6 +2,8 @@
 ghost use Rattle.std.specs.Prelude.{◌≡◌, [], IfOk, length};
 ghost use Rattle.uhura_veto.specs.Vetoes.{AreSoundVetoes};
 
+mod copy;
+
 use crate::Veto;
 use indexmap::IndexMap;
 use std::alloc::{AllocError, Global};

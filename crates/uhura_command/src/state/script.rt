@@ -2,7 +2,9 @@
 ghost use Rattle.std.specs.Prelude.{◌≡◌, ◌++◌, ◌<◌, length, map, flat_map, slice_get, Some, All, IfOk, OnOk, OnErr};
 ghost use Rattle.uhura_plan.specs.Sound.{IsEventAmong, IsLiteralAmong, IsSoundRequirement};
 ghost use Rattle.uhura_line.specs.declared.command.Command.TheVariants as command;
-ghost use Rattle.uhura_command.specs.Script.{name_at, event_name, literal_names, guard_names, uncertain_command, choice_command, requirement_command, command_line, script};
+ghost use Rattle.uhura_command.specs.Script.{name_at, event_name, literal_names, guard_names};
+ghost use Rattle.uhura_command.specs.Script.{uncertain_command, choice_command, requirement_command};
+ghost use Rattle.uhura_command.specs.Script.{plan_commands, command_line, script};
 
 use super::State;
 use std::alloc::{AllocError, Global};
@@ -14,7 +16,7 @@ impl State {
     /// each requirement, each list in its order. Read as a script by a new dialogue it makes the same
     /// state up to the slots of requirements.
     pub fn script(&self, out: &mut Vec<u8>) -> Result<(), AllocError>
-        ensures ok { OnOk result (out.new.items ≡ out.old.items ++ script self.now.plan) }
+        ensures ok { OnOk result (out.new.items ≡ out.old.items ++ script self.now) }
         ensures err { OnErr result (out.new.items ≡ out.old.items) }
     {
         let text = script_text(out.allocator().clone()?, &self.plan)?;
@@ -24,7 +26,8 @@ impl State {
 
 /// The canonical script of a plan.
 fn script_text(alloc: Global, plan: &Plan) -> Result<Vec<u8>, AllocError>
-    ensures { IfOk result (λ text. text.items ≡ script plan.now) }
+    ensures { IfOk result (λ text.
+        text.items ≡ flat_map command_line (plan_commands plan.now)) }
 {
     let mut text = Vec::new(alloc);
     put_events(plan, &mut text)?;
@@ -36,7 +39,9 @@ fn script_text(alloc: Global, plan: &Plan) -> Result<Vec<u8>, AllocError>
 
 /// Appends the lines of the controllable events.
 fn put_events(plan: &Plan, text: &mut Vec<u8>) -> Result<(), AllocError>
-    ensures { IfOk result (λ _. text.new.items ≡ text.old.items ++ flat_map command_line (map (λ name. command.Event name) plan.now.events)) }
+    ensures { IfOk result (λ _. text.new.items ≡
+        text.old.items ++
+        flat_map command_line (map (λ name. command.Event name) plan.now.events)) }
 {
     for place in 0..plan.events() {
         let name = event_at(plan, place);
@@ -47,7 +52,9 @@ fn put_events(plan: &Plan, text: &mut Vec<u8>) -> Result<(), AllocError>
 
 /// Appends the lines of the durations.
 fn put_uncertains(plan: &Plan, text: &mut Vec<u8>) -> Result<(), AllocError>
-    ensures { IfOk result (λ _. text.new.items ≡ text.old.items ++ flat_map command_line (map (uncertain_command plan.now) plan.now.uncertains)) }
+    ensures { IfOk result (λ _. text.new.items ≡
+        text.old.items ++
+        flat_map command_line (map (uncertain_command plan.now) plan.now.uncertains)) }
 {
     for place in 0..plan.uncertains() {
         let uncertain = plan.uncertain(place).unwrap();
@@ -58,7 +65,9 @@ fn put_uncertains(plan: &Plan, text: &mut Vec<u8>) -> Result<(), AllocError>
 
 /// Appends the lines of the choices.
 fn put_choices(plan: &Plan, text: &mut Vec<u8>) -> Result<(), AllocError>
-    ensures { IfOk result (λ _. text.new.items ≡ text.old.items ++ flat_map command_line (map (choice_command plan.now) plan.now.choices)) }
+    ensures { IfOk result (λ _. text.new.items ≡
+        text.old.items ++
+        flat_map command_line (map (choice_command plan.now) plan.now.choices)) }
 {
     for place in 0..plan.choices() {
         let choice = plan.choice(place).unwrap();
@@ -70,7 +79,9 @@ fn put_choices(plan: &Plan, text: &mut Vec<u8>) -> Result<(), AllocError>
 
 /// Appends the lines of the requirements.
 fn put_requirements(plan: &Plan, text: &mut Vec<u8>) -> Result<(), AllocError>
-    ensures { IfOk result (λ _. text.new.items ≡ text.old.items ++ flat_map command_line (map (requirement_command plan.now) plan.now.requirements)) }
+    ensures { IfOk result (λ _. text.new.items ≡
+        text.old.items ++
+        flat_map command_line (map (requirement_command plan.now) plan.now.requirements)) }
 {
     for place in 0..plan.requirements() {
         let requirement = plan.requirement(place).unwrap();

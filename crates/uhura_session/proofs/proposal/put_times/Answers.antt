@@ -3,7 +3,7 @@ use Rattle.std.specs.Prelude.{slice_get, Some, None, codes, pos, unwrap_or}
 use Rattle.std.proofs.lemmas.Option.{unwrap_or-slice_get}
 use Rattle.uhura_text.specs.Number.{spelling}
 use Rattle.uhura_line.specs.Written.{line_of}
-use Rattle.uhura_relax.specs.Schedule.{scheduled}
+use Rattle.uhura_relax.specs.Schedule.{scheduled_time}
 use Rattle.uhura_session.specs.ProposalText.{time_lines}
 use Rattle.uhura_session.proofs.Walk.{left_at, ended_at, extended}
 use Rattle.uhura_session.proofs.proposal.put_times.Goals as goal
@@ -12,7 +12,7 @@ use Rattle.uhura_session.proofs.proposal.put_times.Goals.{in-Some+in_ok-put_time
 pub loop-event-preserved : goal.loop-event-preserved
 loop-event-preserved c =
     let names = c.args.plan.now.events in
-    let times = scheduled c.args.schedule.now in
+    let times = scheduled_time c.args.schedule.now in
     let e = c.loop-event.event in
     elim c.match-event.branch [
       | in-Some+in_ok-put_time w ↦

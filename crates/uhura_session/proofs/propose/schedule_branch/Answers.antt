@@ -1,6 +1,6 @@
 use Rattle.std.proofs.Common.{[], Err, subst}
 use Rattle.uhura_relax.specs.declared.refusal.RelaxRefusal.TheVariants.{Broken}
-use Rattle.uhura_relax.specs.Schedule.{IsRelaxed}
+use Rattle.uhura_relax.specs.Schedule.{GivesEarliest}
 use Rattle.uhura_session.proofs.BestBranch.{open_scheduled}
 use Rattle.uhura_session.proofs.propose.schedule_branch.Goals as goal
 
@@ -10,6 +10,6 @@ unreachable-requires c =
     let plan = c.args.plan.now in
     let branch = c.args.branch.now in
     let cycle = c.in-Err-Broken.field-0-0 in
-    let broken : IsRelaxed plan branch [] (Err (Broken cycle)) =
-    subst (λ error. IsRelaxed plan branch [] (Err error)) c.in-Err-Broken.field-0-is c.in-Err-Broken.ensures in
-    open_scheduled plan branch cycle.items c.requires.unpriced c.requires.open_branch broken
+    let broken : GivesEarliest plan branch [] (Err (Broken cycle)) =
+    subst (λ error. GivesEarliest plan branch [] (Err error)) c.in-Err-Broken.field-0-is c.in-Err-Broken.ensures in
+    open_scheduled (record { plan = plan; vetoes = [] }) branch cycle.items c.requires.unpriced c.requires.open_branch broken

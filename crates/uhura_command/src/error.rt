@@ -1,9 +1,10 @@
 //! The lines that answer refused lines.
 ghost use Rattle.std.specs.Prelude.{◌≡◌, IfOk};
-ghost use Rattle.uhura_session.specs.Answers.{IsLineError, IsStateError, unbuilt_text};
+ghost use Rattle.uhura_command.specs.Errors.{IsLineError, IsStateError, unbuilt_text};
 
+use crate::StateRefusal;
 use std::alloc::AllocError;
-use uhura_command::{LineRefusal, StateRefusal};
+use uhura_line::LineRefusal;
 
 /// Writes this line in place of what the text holds.
 fn rewrite(text: &mut Vec<u8>, line: &[u8]) -> Result<(), AllocError>
@@ -13,7 +14,7 @@ fn rewrite(text: &mut Vec<u8>, line: &[u8]) -> Result<(), AllocError>
     text.extend_from_slice(line)
 }
 
-/// Writes why a line is no command. Want of memory is passed on.
+/// Writes why a line is no command, in place of what the text holds. Want of memory is passed on.
 pub fn put_line_error(text: &mut Vec<u8>, refusal: LineRefusal) -> Result<(), AllocError>
     ensures { IfOk result (λ _. IsLineError refusal text.new.items) }
 {
@@ -28,7 +29,7 @@ pub fn put_line_error(text: &mut Vec<u8>, refusal: LineRefusal) -> Result<(), Al
     }
 }
 
-/// Writes why a command is refused. Want of memory is passed on.
+/// Writes why a command is refused, in place of what the text holds. Want of memory is passed on.
 pub fn put_state_error(text: &mut Vec<u8>, refusal: StateRefusal) -> Result<(), AllocError>
     ensures { IfOk result (λ _. IsStateError refusal text.new.items) }
 {
@@ -44,7 +45,7 @@ pub fn put_state_error(text: &mut Vec<u8>, refusal: StateRefusal) -> Result<(), 
     }
 }
 
-/// Writes that a command's part isn't built yet.
+/// Writes that a command's part isn't built yet, in place of what the text holds.
 pub fn put_unbuilt(text: &mut Vec<u8>) -> Result<(), AllocError>
     ensures { IfOk result (λ _. text.new.items ≡ unbuilt_text) }
 {
