@@ -1,6 +1,6 @@
 -- What is allowed in a state is allowed, with the same cost, in one that is the same but for the slots of requirements.
-use Rattle.std.proofs.Common.{rules, ◌≡◌, ◌≢◌, ℕ, zero, suc, ◌+◌, ◌<◌, ◌≤◌, Bool, true, false, List, [], ◌∷◌, length, Option, None, Some, IfSome, IsFalse, slice_get, Contains, AllPairs, refl, sym, ap, subst, ◌∙◌, arith, inl, inr}
-use Rattle.std.specs.Prelude.{if◌then◌else◌, nat_eq, map, sum_by, option_map, ℤ, pos, ◌-ℤ◌, ◌+ℤ◌, ◌*ℤ◌, ◌≤ℤ◌}
+use Rattle.std.proofs.Common.{◌≡◌, ◌≢◌, ℕ, zero, suc, ◌+◌, ◌<◌, Bool, List, [], ◌∷◌, length, Option, None, Some, IfSome, slice_get, Contains, AllPairs, refl, sym, ap, subst, ◌∙◌, arith, inl, inr}
+use Rattle.std.specs.Prelude.{if◌then◌else◌, nat_eq, sum_by, option_map, ℤ, pos, ◌-ℤ◌, ◌+ℤ◌, ◌*ℤ◌, ◌≤ℤ◌}
 use Rattle.std.proofs.lemmas.Bool.Decides.{Decides-eqb, eqb_tells}
 use Rattle.std.proofs.lemmas.List.{length-map}
 use Rattle.std.proofs.lemmas.List.Sums.{sum_by-cons}
@@ -9,22 +9,19 @@ use Rattle.uhura_plan.specs.declared.key.Side.{Side}
 use Rattle.uhura_plan.specs.declared.key.Side.TheVariants.{Lower, Upper}
 use Rattle.uhura_plan.specs.declared.key.Item.{Item}
 use Rattle.uhura_plan.specs.declared.key.Item.TheVariants as item
-use Rattle.uhura_plan.specs.declared.key.SideKey.{SideKey}
 use Rattle.uhura_plan.specs.declared.choice.Choice.{Choice}
 use Rattle.uhura_plan.specs.declared.requirement.Requirement.{Requirement}
 use Rattle.uhura_plan.specs.declared.uncertain.Uncertain.{Uncertain}
-use Rattle.uhura_plan.specs.Lists.{Lists, slots}
-use Rattle.uhura_plan.specs.Sides.{bounded_of, loosening_rate, rate_of}
+use Rattle.uhura_plan.specs.Lists.{slots}
+use Rattle.uhura_plan.specs.Sides.{loosening_rate, rate_of}
 use Rattle.uhura_plan.specs.Sound.{IsSound}
-use Rattle.uhura_choice.specs.Branch.{holds, IsBranch, picked_cost}
 use Rattle.uhura_veto.specs.declared.veto.Veto.{Veto}
 use Rattle.uhura_veto.specs.State.{State}
-use Rattle.uhura_veto.specs.Denial.{is_denied}
-use Rattle.uhura_veto.specs.Room.{requirement_room, duration_room, room_to_loosen, room_to_narrow, width_of, IsWithinRoom}
-use Rattle.uhura_worst.specs.Proposal.{Proposal, loosened, narrowed, least_left, greatest_left, time_of, IsWithin}
+use Rattle.uhura_veto.specs.Room.{requirement_room, room_to_loosen, room_to_narrow, width_of, IsWithinRoom}
+use Rattle.uhura_worst.specs.Proposal.{Proposal, narrowed, time_of, IsWithin}
 use Rattle.uhura_worst.specs.Allowed.{Allowed}
 use Rattle.uhura_worst.specs.Cost.{price_of, loosening_cost, narrowing_cost, narrowings_cost, cost}
-use Rattle.uhura_worst.specs.Slots.{in_slot, loosening_caps, narrowing_caps, IsSameButForSlots}
+use Rattle.uhura_worst.specs.Slots.{in_slot, loosening_caps, IsSameButForSlots}
 use Rattle.uhura_worst.proofs.SoundItems.{Contains-at}
 use Rattle.uhura_worst.proofs.FirstItems.{slot_at}
 
