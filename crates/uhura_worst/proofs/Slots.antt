@@ -72,12 +72,14 @@ twin b rs vetoes sound same place s there = by (slice_get rs place) refl
     by : (o : Option Requirement) → slice_get rs place ≡ o → option_map (in_slot 0) o ≡ Some (in_slot 0 s) → (slot : ℕ) × IsTwin b rs vetoes place s slot
     by None is mapped = absurd (let never : ⊥ = cc in never)
     by (Some r) is mapped =
-        let own : r ≡ in_slot r.slot s = ap (in_slot r.slot) (same_Some (in_slot 0 r) (in_slot 0 s) mapped) in
-        (r.slot, record {
-          here = is ∙ ap (λ (q : Requirement). Some q) own;
-          other = other_slot-at rs b.plan.requirements place r s sound.distinct.slots is there;
-          caps = λ side. ap (loosening_caps vetoes side) (sym own) ∙ same.loosening side place r s is there;
-        })
+        let own : r ≡ in_slot r.slot s = ap (in_slot r.slot) (same_Some (in_slot 0 r) (in_slot 0 s) mapped) in (
+          r.slot,
+          record {
+            here = is ∙ ap (λ (q : Requirement). Some q) own;
+            other = other_slot-at rs b.plan.requirements place r s sound.distinct.slots is there;
+            caps = λ side. ap (loosening_caps vetoes side) (sym own) ∙ same.loosening side place r s is there;
+          },
+        )
 
 twin_of : (b : State) (rs : List Requirement) (vetoes : List Veto) → IsSound b.plan → IsSameButForSlots (alike b rs vetoes) b →
     (s : Requirement) → Contains b.plan.requirements s → (place : ℕ) × (slot : ℕ) × IsTwin b rs vetoes place s slot
@@ -183,11 +185,14 @@ same_worth a b k q sound same allowed =
     ∙ ap (λ (u : List Uncertain). of b.plan.events u a.plan.choices) same.uncertains
     ∙ ap (λ (c : List Choice). of b.plan.events b.plan.uncertains c) same.choices in
     subst (λ (x : State). IsSameButForSlots x b → Allowed x k q → (m : Proposal) × IsWorth x b k q m) (sym is)
-    (λ like kept. (moved a.plan.requirements b.plan.requirements q, record {
-      allowed = moved-allowed b a.plan.requirements a.vetoes k q sound like kept;
-      branch = refl;
-      cost = moved-cost b a.plan.requirements a.vetoes k q sound like;
-    })) same allowed
+    (λ like kept. (
+      moved a.plan.requirements b.plan.requirements q,
+      record {
+        allowed = moved-allowed b a.plan.requirements a.vetoes k q sound like kept;
+        branch = refl;
+        cost = moved-cost b a.plan.requirements a.vetoes k q sound like;
+      },
+    )) same allowed
 
 -- the other way
 pub IsSameButForSlots-back : (a b : State) → IsSameButForSlots a b → IsSameButForSlots b a
