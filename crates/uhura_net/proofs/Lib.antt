@@ -5,11 +5,14 @@ pub mod Duality
 mod Empty
 pub mod Firm
 pub mod Keys
+mod Linking
+mod Listed
 mod Moves
 pub mod Outweighing
 pub mod Paying
 mod Worths
 mod Pushing
+mod Relisting
 pub mod Rows
 pub mod Scaled
 mod Setting

@@ -6,6 +6,8 @@ use Rattle.uhura_net.specs.declared.edge.Edge.{Edge}
 use Rattle.uhura_net.specs.Edges.{no_edge, edge_at}
 use Rattle.uhura_net.specs.declared.place.Place.{Place}
 use Rattle.uhura_net.specs.Circulation.{edges_of, units_of, IsCirculation, value_of}
+use Rattle.uhura_net.specs.declared.edge.End.TheVariants.{From, To}
+use Rattle.uhura_net.specs.Lists.{Listing, AreListed}
 use Rattle.uhura_net.specs.Residual.{residual_walk, IsResidualCycle}
 
 -- the edge at each place, the units that it carries, and how often units were pushed
@@ -34,6 +36,17 @@ pub record IsNet (net : Carried) : Type 0 where
   pub counts : length net.units ≡ PLACES
   pub each : (place : ℕ) → IfSome (slice_index_or net.edges place None) IsNetEdge
   pub circulates : Circulates net
+
+-- each place has such an edge, or none
+pub record AreNetEdges (edges : List (Option Edge)) : Type 0 where
+  pub places : length edges ≡ PLACES
+  pub each : (place : ℕ) → IfSome (slice_index_or edges place None) IsNetEdge
+
+-- at each node those places are listed whose edges leave it, and those whose edges enter it
+pub record IsKeptNet (net : Carried) (out into : Listing) : Type 0 where
+  pub sound : IsNet net
+  pub leaving : AreListed (edges_of net.edges) From out
+  pub entering : AreListed (edges_of net.edges) To into
 
 -- the value of the circulation
 unfoldable pub net_value : Carried → ℤ

@@ -4,32 +4,39 @@ ghost use Rattle.uhura_net.specs.Walk.{bounds_of};
 ghost use Rattle.uhura_net.specs.Circulation.{edges_of, units_of};
 ghost use Rattle.uhura_net.specs.Residual.{IsPushed};
 ghost use Rattle.uhura_net.specs.Net.{IsNetEdge, IsNet, MayBeSet, net_value, empty_net, net_walk, IsNetCycle};
+ghost use Rattle.uhura_net.specs.Lists.{AreListed};
+ghost use Rattle.uhura_net.specs.declared.edge.End.TheVariants.{From, To};
 
+use crate::lists::Lists;
 use crate::moving::move_units;
 use crate::worth::worth;
-use crate::{Edge, PLACES, Place};
+use crate::{Edge, End, PLACES, Place};
 use std::alloc::{AllocError, Global};
 use std::marker::Model;
 
 /// Edges at their places, and the units that each of them carries, which are a circulation: at each node as many
-/// enter as leave, and no edge carries more than its capacity. Only `new` takes memory.
+/// enter as leave, and no edge carries more than its capacity. At each node it keeps the lists of places whose edge
+/// leaves it and enters it. Only `new` takes memory.
 #[derive(Debug, Drop)]
 pub struct Net {
     edges: Vec<Option<Edge>>,
     units: Vec<u64>,
     pushes: u64,
+    leaving: Lists,
+    entering: Lists,
 }
 
 impl Model for Net {
-    ghost use Rattle.uhura_net.specs.Net.{Carried, IsNet};
+    ghost use Rattle.uhura_net.specs.Net.{Carried, IsKeptNet};
 
     ghost Value = { Carried };
 
     ghost view = { λ net.
         record { edges = net.edges.items; units = net.units.items; pushes = net.pushes } };
 
-    ghost invariant = { λ net.
-        IsNet (record { edges = net.edges.items; units = net.units.items; pushes = net.pushes }) };
+    ghost invariant = { λ net. IsKeptNet
+        (record { edges = net.edges.items; units = net.units.items; pushes = net.pushes })
+        net.leaving net.entering };
 }
 
 impl Net {
@@ -42,6 +49,8 @@ impl Net {
             edges: vec![in alloc; None; PLACES]?,
             units: vec![in alloc; 0; PLACES]?,
             pushes: 0,
+            leaving: Lists::new(alloc)?,
+            entering: Lists::new(alloc)?,
         })
     }
 
@@ -55,6 +64,8 @@ impl Net {
         ensures sound { IsNet self.new }
     {
         self.edges[place.0 as usize] = edge;
+        self.leaving.list(&self.edges, End::From, place);
+        self.entering.list(&self.edges, End::To, place);
     }
 
     /// The edge at a place.
@@ -74,6 +85,20 @@ impl Net {
         ensures sound { IsNet self.now }
     {
         self.units[place.0 as usize]
+    }
+
+    /// At each node the list of places whose edge leaves it.
+    pub fn leaving(&self) -> &Lists
+        ensures { AreListed (edges_of self.now.edges) From result.now }
+    {
+        &self.leaving
+    }
+
+    /// At each node the list of places whose edge enters it.
+    pub fn entering(&self) -> &Lists
+        ensures { AreListed (edges_of self.now.edges) To result.now }
+    {
+        &self.entering
     }
 
     /// Moves units around a residual cycle: each place that is walked forward gets them, and they are taken from each
