@@ -1,3 +1,4 @@
+mod Bounds
 mod Cancelling
 pub mod Clones
 mod Cycles

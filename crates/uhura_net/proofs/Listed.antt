@@ -1,10 +1,10 @@
 -- How lists of places change.
-use Rattle.std.proofs.Common.{◌≡◌, ◌≢◌, ℕ, ◌+◌, ◌<◌, ◌≤◌, List, length, get_or, set, replicate, refl, sym, ap, subst, ◌∙◌, inl, inr, arith}
+use Rattle.std.proofs.Common.{◌≡◌, ℕ, ◌+◌, ◌<◌, ◌≤◌, List, length, get_or, set, replicate, refl, sym, ap, subst, ◌∙◌, arith}
 use Rattle.std.proofs.lemmas.List.{get_or_default, length-set, length-replicate, get_or-set_same, get_or-set_other}
 use Rattle.uhura_plan.proofs.Slots.{get_or-replicate_default}
 use Rattle.uhura_net.specs.declared.edge.TheConstants.{NODES}
 use Rattle.uhura_net.specs.declared.place.TheConstants.{PLACES}
-use Rattle.uhura_net.specs.Lists.{Listing, first_of, next_of, node_of, IsRanked, IsListing, IsLinked, IsUnlisted}
+use Rattle.uhura_net.specs.Lists.{Listing, first_of, next_of, node_of, IsListing, IsLinked, IsUnlisted}
 use Rattle.uhura_net.proofs.Linking.{IsPut, IsRanked-put}
 
 -- a place in front at a node

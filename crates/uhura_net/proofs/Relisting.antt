@@ -1,5 +1,5 @@
 -- Listing places that have edges.
-use Rattle.std.proofs.Common.{◌≡◌, ◌≢◌, ℕ, ◌+◌, ◌<◌, ◌≤◌, List, length, get_or, set, replicate, Option, None, Some, IfSome, refl, sym, ap, subst, ◌∙◌, inl, inr, arith}
+use Rattle.std.proofs.Common.{◌≡◌, ℕ, ◌+◌, ◌<◌, ◌≤◌, List, length, get_or, set, replicate, pos, Option, None, Some, IfSome, sym, ap, subst, ◌∙◌, inl, inr, arith}
 use Rattle.std.proofs.lemmas.Bool.{cases_eq, cases_lt}
 use Rattle.std.proofs.lemmas.List.{get_or_past, length-set, get_or-set_same, get_or-set_other}
 use Rattle.uhura_net.specs.declared.edge.TheConstants.{NODES}
@@ -9,9 +9,9 @@ use Rattle.uhura_net.specs.declared.edge.End.{End}
 use Rattle.uhura_net.specs.declared.edge.End.TheVariants.{From, To}
 use Rattle.uhura_net.specs.Circulation.{edges_of}
 use Rattle.uhura_net.specs.Edges.{Edges}
-use Rattle.uhura_net.specs.Net.{Carried, IsNetEdge, IsNet, IsKeptNet, AreNetEdges}
+use Rattle.uhura_net.specs.Net.{IsNetEdge, IsKeptNet, AreNetEdges}
 use Rattle.uhura_net.specs.Lists.{Listing, node_of, end_node, IsListing, IsListedAt, AreListed, AreListedBut, IsLinked, IsUnlisted}
-use Rattle.uhura_net.proofs.Empty.{IsNet-empty}
+use Rattle.uhura_net.proofs.Empty.{IsNet-empty, value_empty}
 use Rattle.uhura_plan.proofs.Slots.{get_or-replicate_default}
 
 -- the edges at the first places are listed, and no other place is
@@ -117,9 +117,10 @@ IsListed-empty edges end listing no_edges unlisted = record {
 }
 
 pub IsKeptNet-empty : (edges : List (Option Edge)) (units : List ℕ) (leaving entering : Listing) → edges ≡ replicate PLACES None → units ≡ replicate PLACES 0 →
-    IsUnlisted leaving → IsUnlisted entering → IsKeptNet (record { edges = edges; units = units; pushes = 0 }) leaving entering
+    IsUnlisted leaving → IsUnlisted entering → IsKeptNet (record { edges = edges; units = units; pushes = 0 }) (pos 0) leaving entering
 IsKeptNet-empty edges units leaving entering no_edges no_units none_leave none_enter = record {
   sound = IsNet-empty edges units no_edges no_units;
+  worth = sym (value_empty edges units no_units);
   leaving = IsListed-empty edges From leaving no_edges none_leave;
   entering = IsListed-empty edges To entering no_edges none_enter;
 }

@@ -42,15 +42,16 @@ pub record AreNetEdges (edges : List (Option Edge)) : Type 0 where
   pub places : length edges ≡ PLACES
   pub each : (place : ℕ) → IfSome (slice_index_or edges place None) IsNetEdge
 
--- at each node those places are listed whose edges leave it, and those whose edges enter it
-pub record IsKeptNet (net : Carried) (out into : Listing) : Type 0 where
-  pub sound : IsNet net
-  pub leaving : AreListed (edges_of net.edges) From out
-  pub entering : AreListed (edges_of net.edges) To into
-
 -- the value of the circulation
 unfoldable pub net_value : Carried → ℤ
 net_value net = value_of PLACES (edges_of net.edges) (units_of net.units)
+
+-- what is kept beside a net: its value, and at each node the lists of places whose edges leave it and enter it
+pub record IsKeptNet (net : Carried) (value : ℤ) (out into : Listing) : Type 0 where
+  pub sound : IsNet net
+  pub worth : value ≡ net_value net
+  pub leaving : AreListed (edges_of net.edges) From out
+  pub entering : AreListed (edges_of net.edges) To into
 
 -- some units may pass from an edge to another: it has the same nodes and can carry them
 pub record CanTakeOver (old new : Edge) (units : ℕ) : Type 0 where

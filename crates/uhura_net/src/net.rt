@@ -8,8 +8,8 @@ ghost use Rattle.uhura_net.specs.Lists.{AreListed};
 ghost use Rattle.uhura_net.specs.declared.edge.End.TheVariants.{From, To};
 
 use crate::lists::Lists;
-use crate::moving::move_units;
-use crate::worth::worth;
+use crate::moving::{bounds_along, move_units};
+use crate::worth::{change_value, push_value};
 use crate::{Edge, End, PLACES, Place};
 use std::alloc::{AllocError, Global};
 use std::marker::Model;
@@ -22,6 +22,7 @@ pub struct Net {
     edges: Vec<Option<Edge>>,
     units: Vec<u64>,
     pushes: u64,
+    value: i128,
     leaving: Lists,
     entering: Lists,
 }
@@ -36,7 +37,7 @@ impl Model for Net {
 
     ghost invariant = { λ net. IsKeptNet
         (record { edges = net.edges.items; units = net.units.items; pushes = net.pushes })
-        net.leaving net.entering };
+        net.value net.leaving net.entering };
 }
 
 impl Net {
@@ -49,6 +50,7 @@ impl Net {
             edges: vec![in alloc; None; PLACES]?,
             units: vec![in alloc; 0; PLACES]?,
             pushes: 0,
+            value: 0,
             leaving: Lists::new(alloc)?,
             entering: Lists::new(alloc)?,
         })
@@ -63,7 +65,10 @@ impl Net {
         ensures net { self.new ≡ record self.old { edges = slice_set self.old.edges place.0 edge } }
         ensures sound { IsNet self.new }
     {
-        self.edges[place.0 as usize] = edge;
+        let at = place.0 as usize;
+        let units = self.units[at];
+        self.value = change_value(self.value, self.edges[at], edge, units);
+        self.edges[at] = edge;
         self.leaving.list(&self.edges, End::From, place);
         self.entering.list(&self.edges, End::To, place);
     }
@@ -114,17 +119,18 @@ impl Net {
             (pos units *ℤ bounds_of (net_walk self.old places.now backward.now)) ≡
             net_value self.old }
     {
+        let bounds = bounds_along(&self.edges, places, backward);
         move_units(&mut self.units, places, backward, units);
+        self.value = push_value(self.value, units, bounds);
         self.pushes = self.pushes.saturating_add(1);
     }
 
     /// The value of the circulation: minus the sum of bound times units.
-    #[tactic(auto, unfolding(crate::specs::Net::net_value))]
     pub fn value(&self) -> i128
         ensures value { result ≡ net_value self.now }
         ensures sound { IsNet self.now }
     {
-        -worth(&self.edges, &self.units)
+        self.value
     }
 
     /// How many pushes there were. It stands still at the end of its type.

@@ -1,5 +1,4 @@
 use Rattle.uhura_net.specs.Circulation.{edges_of}
-use Rattle.uhura_net.specs.Lists.{IsLinked}
 use Rattle.uhura_net.proofs.Relisting.{AreListed-linked}
 use Rattle.uhura_net.proofs.lists.Lists.list.Goals as goal
 

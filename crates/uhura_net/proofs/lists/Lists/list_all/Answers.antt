@@ -1,4 +1,4 @@
-use Rattle.std.proofs.Common.{◌<◌, arith}
+use Rattle.std.proofs.Common.{arith}
 use Rattle.uhura_net.proofs.Relisting.{AreListedSoFar-none, AreListedSoFar-passed, AreListedSoFar-more, AreListed-done}
 use Rattle.uhura_net.proofs.lists.Lists.list_all.Goals as goal
 use Rattle.uhura_net.proofs.lists.Lists.list_all.Goals.{in-Some, in_default}
