@@ -182,3 +182,13 @@ IsNetPushed-written before net places backward amount old new written pushes sam
     subst begins same
     (subst leaves (sym new_is)
     (IsNetPushed-around net places backward amount new pushes is_net (subst cycles (sym same) cycle) (subst moves old_is pushed) (counts ∙ ap length old_is)))
+
+-- so the value after it, where the value and the bounds along the walk were computed
+pub value_pushed : (before net after : NetState) (edges : List (Option Edge)) (places : List Place) (backward : List Bool) (amount : ℕ) (value bounds : ℤ) → net ≡ before →
+    edges ≡ net.edges → ((units : Units) → bounds ≡ bounds_of (residual_walk (edges_of edges) units places backward)) → value ≡ net_value net →
+    IsNetPushed before places backward amount after → net_value after ≡ value -ℤ (pos amount *ℤ bounds)
+value_pushed before net after edges places backward amount value bounds same edges_is is worth pushed =
+    let along : List (Option Edge) → ℤ = λ es. bounds_of (residual_walk (edges_of es) (units_of before.units) places backward) in
+    let bounds_is : bounds ≡ along before.edges = is (units_of before.units) ∙ ap along (edges_is ∙ ap (λ (n : NetState). n.edges) same) in
+    let moved = ap (λ z. pos amount *ℤ z) bounds_is in
+    omega (arith, ints, pushed.value, moved, worth, ap net_value same)

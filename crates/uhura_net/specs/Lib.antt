@@ -2,6 +2,7 @@ pub mod Place
 pub mod Table
 pub mod Edges
 pub mod Walk
+pub mod Lists
 pub mod Sums
 pub mod Circulation
 pub mod Optimal

@@ -6,6 +6,8 @@ use Rattle.uhura_net.specs.declared.edge.Edge.{Edge}
 use Rattle.uhura_net.specs.Edges.{no_edge, edge_at}
 use Rattle.uhura_net.specs.declared.place.Place.{Place}
 use Rattle.uhura_net.specs.Circulation.{edges_of, units_of, IsCirculation, value_of}
+use Rattle.uhura_net.specs.declared.edge.End.TheVariants.{From, To}
+use Rattle.uhura_net.specs.Lists.{Listing, AreListed}
 use Rattle.uhura_net.specs.Residual.{residual_walk, IsResidualCycle}
 
 -- the edge at each place, the units that it carries, and how often units were pushed
@@ -35,9 +37,21 @@ pub record IsNet (net : NetState) : Type 0 where
   pub each : (place : ℕ) → IfSome (slice_index_or net.edges place None) IsNetEdge
   pub circulates : Circulates net
 
+-- each place has such an edge, or none
+pub record AreNetEdges (edges : List (Option Edge)) : Type 0 where
+  pub places : length edges ≡ PLACES
+  pub each : (place : ℕ) → IfSome (slice_index_or edges place None) IsNetEdge
+
 -- the value of the circulation
 unfoldable pub net_value : NetState → ℤ
 net_value net = value_of PLACES (edges_of net.edges) (units_of net.units)
+
+-- what is kept beside a net: its value, and at each node the lists of places whose edges leave it and enter it
+pub record IsKeptNet (net : NetState) (value : ℤ) (out into : Listing) : Type 0 where
+  pub sound : IsNet net
+  pub worth : value ≡ net_value net
+  pub leaving : AreListed (edges_of net.edges) From out
+  pub entering : AreListed (edges_of net.edges) To into
 
 -- some units may pass from an edge to another: it has the same nodes and can carry them
 pub record CanTakeOver (old new : Edge) (units : ℕ) : Type 0 where

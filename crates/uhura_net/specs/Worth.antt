@@ -1,9 +1,7 @@
 -- What units are worth at the bounds of their edges.
-use Rattle.std.specs.Prelude.{ℕ, ◌*◌, ◌≤◌, pos, negsuc, neg_ℤ, ◌≤ℤ◌, ℤ, List, Option}
+use Rattle.std.specs.Prelude.{ℕ, ◌*◌, ◌≤◌, pos, negsuc, neg_ℤ, ◌≤ℤ◌, ℤ}
 use Rattle.uhura_net.specs.declared.edge.TheConstants.{FIRM_CAPACITY}
 use Rattle.uhura_net.specs.declared.edge.Edge.{Edge}
-use Rattle.uhura_net.specs.Edges.{edge_at}
-use Rattle.uhura_net.specs.Circulation.{edges_of, units_of}
 
 -- what units of so many edges may be worth, either way: the firm capacity at 2,000,000,000 on each
 abbrev pub IsSmallWorth : ℕ → ℤ → Type 0
@@ -16,6 +14,3 @@ pub record IsSmall (edge : Edge) (units : ℕ) : Type 0 where
   pub least : negsuc 1999999999 ≤ℤ edge.bound
   pub most : edge.bound ≤ℤ pos 2000000000
   pub few : units ≤ FIRM_CAPACITY
-
-abbrev pub AreSmall : List (Option Edge) → List ℕ → Type 0
-AreSmall edges units = (place : ℕ) → IsSmall (edge_at (edges_of edges) place) (units_of units place)

@@ -1,4 +1,6 @@
 //! An edge between two events of the worst case.
+ghost use Rattle.std.specs.Prelude.{◌≡◌};
+ghost use Rattle.uhura_net.specs.Lists.{end_node};
 
 /// The number of nodes: one for each controllable event, and two for each end of a duration.
 pub const NODES: usize = 1024;
@@ -14,4 +16,23 @@ pub struct Edge {
     pub to: u32,
     pub bound: i64,
     pub capacity: u64,
+}
+
+/// An end of an edge.
+#[derive(Clone, Copy, Debug, PartialEq, Eq)]
+pub enum End {
+    From,
+    To,
+}
+
+impl Edge {
+    /// The node at an end.
+    pub fn node(self, end: End) -> u32
+        ensures { result ≡ end_node end self }
+    {
+        match end {
+            End::From => self.from,
+            End::To => self.to,
+        }
+    }
 }

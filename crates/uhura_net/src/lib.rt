@@ -6,13 +6,15 @@
 
 mod edge;
 pub mod laws;
+mod lists;
 mod moving;
 mod net;
 mod place;
 mod table;
 mod worth;
 
-pub use edge::{Edge, FIRM_CAPACITY, NODES};
+pub use edge::{Edge, End, FIRM_CAPACITY, NODES};
+pub use lists::Lists;
 pub use net::Net;
 pub use place::{PLACES, Place, key_of, place_of};
 pub use table::EdgeTable;

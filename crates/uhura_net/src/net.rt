@@ -4,32 +4,40 @@ ghost use Rattle.uhura_net.specs.Walk.{bounds_of};
 ghost use Rattle.uhura_net.specs.Circulation.{edges_of, units_of};
 ghost use Rattle.uhura_net.specs.Residual.{IsPushed};
 ghost use Rattle.uhura_net.specs.Net.{IsNetEdge, IsNet, MayBeSet, net_value, empty_net, net_walk, IsNetCycle};
+ghost use Rattle.uhura_net.specs.Lists.{AreListed};
+ghost use Rattle.uhura_net.specs.declared.edge.End.TheVariants.{From, To};
 
-use crate::moving::move_units;
-use crate::worth::worth;
-use crate::{Edge, PLACES, Place};
+use crate::lists::Lists;
+use crate::moving::{bounds_along, move_units};
+use crate::worth::{change_value, push_value};
+use crate::{Edge, End, PLACES, Place};
 use std::alloc::{AllocError, Global};
 use std::marker::Model;
 
 /// Edges at their places, and the units that each of them carries, which are a circulation: at each node as many
-/// enter as leave, and no edge carries more than its capacity. Only `new` takes memory.
+/// enter as leave, and no edge carries more than its capacity. At each node it keeps the lists of places whose edge
+/// leaves it and enters it. Only `new` takes memory.
 #[derive(Debug, Drop)]
 pub struct Net {
     edges: Vec<Option<Edge>>,
     units: Vec<u64>,
     pushes: u64,
+    value: i128,
+    leaving: Lists,
+    entering: Lists,
 }
 
 impl Model for Net {
-    ghost use Rattle.uhura_net.specs.Net.{NetState, IsNet};
+    ghost use Rattle.uhura_net.specs.Net.{NetState, IsKeptNet};
 
     ghost Value = { NetState };
 
     ghost view = { λ net.
         record { edges = net.edges.items; units = net.units.items; pushes = net.pushes } };
 
-    ghost invariant = { λ net.
-        IsNet (record { edges = net.edges.items; units = net.units.items; pushes = net.pushes }) };
+    ghost invariant = { λ net. IsKeptNet
+        (record { edges = net.edges.items; units = net.units.items; pushes = net.pushes })
+        net.value net.leaving net.entering };
 }
 
 impl Net {
@@ -42,6 +50,9 @@ impl Net {
             edges: vec![in alloc; None; PLACES]?,
             units: vec![in alloc; 0; PLACES]?,
             pushes: 0,
+            value: 0,
+            leaving: Lists::new(alloc)?,
+            entering: Lists::new(alloc)?,
         })
     }
 
@@ -54,7 +65,12 @@ impl Net {
         ensures net { self.new ≡ record self.old { edges = slice_set self.old.edges place.0 edge } }
         ensures sound { IsNet self.new }
     {
-        self.edges[place.0 as usize] = edge;
+        let at = place.0 as usize;
+        let units = self.units[at];
+        self.value = change_value(self.value, self.edges[at], edge, units);
+        self.edges[at] = edge;
+        self.leaving.list(&self.edges, End::From, place);
+        self.entering.list(&self.edges, End::To, place);
     }
 
     /// The edge at a place.
@@ -76,6 +92,20 @@ impl Net {
         self.units[place.0 as usize]
     }
 
+    /// At each node the list of places whose edge leaves it.
+    pub fn leaving(&self) -> &Lists
+        ensures { AreListed (edges_of self.now.edges) From result.now }
+    {
+        &self.leaving
+    }
+
+    /// At each node the list of places whose edge enters it.
+    pub fn entering(&self) -> &Lists
+        ensures { AreListed (edges_of self.now.edges) To result.now }
+    {
+        &self.entering
+    }
+
     /// Moves units around a residual cycle: each place that is walked forward gets them, and they are taken from each
     /// that is walked backward. The value falls by the units times the bounds along the walk.
     pub fn push(&mut self, places: &[Place], backward: &[bool], units: u64)
@@ -89,17 +119,18 @@ impl Net {
             (pos units *ℤ bounds_of (net_walk self.old places.now backward.now)) ≡
             net_value self.old }
     {
+        let bounds = bounds_along(&self.edges, places, backward);
         move_units(&mut self.units, places, backward, units);
+        self.value = push_value(self.value, units, bounds);
         self.pushes = self.pushes.saturating_add(1);
     }
 
     /// The value of the circulation: minus the sum of bound times units.
-    #[tactic(auto, unfolding(crate::specs::Net::net_value))]
     pub fn value(&self) -> i128
         ensures value { result ≡ net_value self.now }
         ensures sound { IsNet self.now }
     {
-        -worth(&self.edges, &self.units)
+        self.value
     }
 
     /// How many pushes there were. It stands still at the end of its type.
