@@ -128,7 +128,10 @@ fn is_requirement(
 
 #[test]
 fn takes_each_part(rt: HostRuntime) -> Result<(), Fail> {
-    let command = parse(rt.alloc(), b"require r a b -5 - lower 2 past 4 5 9 upper 3 when c x")?;
+    let command = parse(
+        rt.alloc(),
+        b"require r a b -5 - lower 2 past 4 5 9 upper 3 when c x",
+    )?;
     let command = command.ok_or("a command")?;
     let lower = Bounded {
         bound: Some(-5),
