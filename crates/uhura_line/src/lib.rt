@@ -7,8 +7,6 @@ mod literals;
 mod parsing;
 mod part;
 mod refusal;
-#[cfg(test)]
-mod tests;
 mod verb;
 mod write;
 
