@@ -1,5 +1,5 @@
 -- What a whole line is parsed to.
-use Rattle.std.proofs.Common.{◌≡◌, ℕ, true, false, List, [], ◌∷◌, Option, None, Some, is_some, Result, Ok, Err, refl, ap, sym, subst, ◌∙◌}
+use Rattle.std.proofs.Common.{◌≡◌, ℕ, true, List, [], ◌∷◌, Option, None, Some, is_some, Result, Ok, Err, refl, ap, sym, subst, ◌∙◌}
 use Rattle.uhura_text.specs.Words.{words}
 use Rattle.uhura_line.specs.declared.command.Command.{Command}
 use Rattle.uhura_line.specs.declared.verb.Verb as verbs

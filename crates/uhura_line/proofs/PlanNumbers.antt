@@ -1,6 +1,5 @@
 -- The numbers of a plan are spelled by words that pass the tests of their places.
 use Rattle.std.proofs.Common.{◌≡◌, ◌≢◌, ℕ, ◌+◌, ◌^◌, ◌<◌, ◌≤◌, ℤ, pos, negsuc, ◌≤ℤ◌, unsigned_abs, int_le, Bool, true, false, ◌&&◌, ◌||◌, Option, Some, None, IfSome, option_map, bytes_eq, codes, refl, sym, ap, ◌∙◌, arith, true≢false}
-use Rattle.std.specs.Option.{option_map_or}
 use Rattle.std.proofs.lemmas.Int.{ints}
 use Rattle.uhura_text.specs.Number.{number_of, spelling, is_magnitude}
 use Rattle.uhura_text.proofs.SpellingLemmas.{number_of-spelling}
@@ -12,7 +11,7 @@ use Rattle.uhura_plan.specs.Limits.{IsBound, IsRangeEnd, IsUnitPrice, IsSecond, 
 use Rattle.uhura_plan.specs.declared.key.Side.{Side}
 use Rattle.uhura_plan.specs.declared.key.Side.TheVariants.{Lower, Upper}
 use Rattle.uhura_line.specs.Form.{Word, Past, is_among, not_max, followers, HasMax}
-use Rattle.uhura_line.specs.Reads.{count_word, bound_word, past_of, rated_of, priced_of, magnitude_of, is_number, is_bound, is_first, is_units, is_above, is_past, is_amount, if_there, is_rated, is_priced}
+use Rattle.uhura_line.specs.Reads.{count_word, bound_word, past_of, rated_of, priced_of, is_number, is_bound, is_first, is_units, is_above, is_past, is_amount, if_there, is_rated, is_priced}
 use Rattle.uhura_line.proofs.OneSpelling.{AreLimits, bound_limits, amount_limits, units_limits, first_limits, above_limits, magnitude_of-word, other_word}
 
 -- a number within limits is spelled by a number within them

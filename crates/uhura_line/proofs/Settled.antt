@@ -1,5 +1,5 @@
 -- What a line is parsed to is settled.
-use Rattle.std.proofs.Common.{◌≡◌, true, false, List, [], ◌∷◌, Option, Some, None, Ok, Err, is_some, refl, sym, ◌∙◌}
+use Rattle.std.proofs.Common.{◌≡◌, true, List, [], ◌∷◌, Option, Some, None, Ok, Err, is_some, refl, sym, ◌∙◌}
 use Rattle.std.specs.Prelude.{if◌then◌else◌}
 use Rattle.std.specs.Option.{option_map_or, option_and_then}
 use Rattle.std.specs.declared.alloc.AllocError.{AllocError}
@@ -10,7 +10,7 @@ use Rattle.uhura_line.specs.declared.refusal.LineRefusal.TheVariants as refusal
 use Rattle.uhura_line.specs.Form.{Word, Form, IsForm}
 use Rattle.uhura_line.specs.Reads.{form_of, has_numbers, has_names}
 use Rattle.uhura_line.specs.Verbs.{verb_in, form_behind, form_in}
-use Rattle.uhura_line.specs.Parses.{begins_with_verb, HasForm, ParsesWords}
+use Rattle.uhura_line.specs.Parses.{begins_with_verb, ParsesWords}
 use Rattle.uhura_line.proofs.OneForm.{found_in_line, form_are}
 
 -- why words of a form, or words, give no command, want of memory aside

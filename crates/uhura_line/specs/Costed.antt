@@ -1,7 +1,5 @@
 -- Alternatives with their costs as far as they are read.
 use Rattle.std.specs.Prelude.{◌≡◌, true, false, List, Some}
-use Rattle.std.specs.List.{list_all}
-use Rattle.uhura_plan.specs.Name.{is_name}
 use Rattle.uhura_line.specs.declared.part.costed.Costed.{Costed}
 use Rattle.uhura_line.specs.declared.part.costed.Costed.TheVariants as code
 use Rattle.uhura_line.specs.Form.{Word}
