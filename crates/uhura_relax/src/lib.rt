@@ -2,7 +2,7 @@
 //! stands in `specs/Schedule.antt`, and the edges whose times it takes in `specs/Loosened.antt`.
 #![tactic(auto)]
 
-mod earliest;
+mod earliest_times;
 mod loosened;
 mod refusal;
 mod schedule;
@@ -10,7 +10,7 @@ mod scratch;
 #[cfg(test)]
 mod tests;
 
-pub use earliest::{earliest, earliest_in};
+pub use earliest_times::{earliest, earliest_in};
 pub use refusal::RelaxRefusal;
 pub use schedule::Schedule;
 pub use scratch::RelaxScratch;

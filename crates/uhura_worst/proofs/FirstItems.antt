@@ -28,7 +28,7 @@ passes test (y ∷ ys) x found = by (test y) refl (passes test ys x) found
     by false is rest later = rest later
 
 -- the slot at a place
-slot_at : (requirements : List Requirement) (i : ℕ) (r : Requirement) → slice_get requirements i ≡ Some r → slice_get (slots requirements) i ≡ Some r.slot
+pub slot_at : (requirements : List Requirement) (i : ℕ) (r : Requirement) → slice_get requirements i ≡ Some r → slice_get (slots requirements) i ≡ Some r.slot
 slot_at requirements i r is = slice_get-map (λ (q : Requirement). q.slot) requirements i ∙ ap (option_map (λ (q : Requirement). q.slot)) is
 
 -- no requirement before one has its slot

@@ -9,3 +9,4 @@ pub mod FirmEdges
 pub mod WholeTimes
 pub mod PassedUnits
 mod Pairs
+mod Slots

@@ -8,3 +8,4 @@ pub mod Filled
 pub mod WorstCase
 pub mod Units
 pub mod Examples
+pub mod Slots

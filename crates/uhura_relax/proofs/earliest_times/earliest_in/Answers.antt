@@ -5,7 +5,7 @@ use Rattle.uhura_relax.proofs.Opposites.{IsOppositeOf, IsOppositeOf-read}
 use Rattle.uhura_relax.proofs.LeastTimes.{IsEarliestSchedule-opposite, HasNoSchedule-backward}
 use Rattle.uhura_cycle.specs.Verdict.{AreGreatestTimes}
 use Rattle.uhura_net.specs.Edges.{chosen_edges}
-use Rattle.uhura_relax.proofs.earliest.earliest_in.Goals as goal
+use Rattle.uhura_relax.proofs.earliest_times.earliest_in.Goals as goal
 
 pub opposite-requires : goal.opposite-requires
 opposite-requires c =
