@@ -1,5 +1,5 @@
 -- The commands that make a sound plan are commands that fit on a line.
-use Rattle.std.proofs.Common.{◌≡◌, ◌≢◌, ℕ, ◌≤◌, pos, ◌≤ℤ◌, true, List, [], ◌∷◌, ◌++◌, length, take, map, Option, Some, None, IfSome, All, get_or, codes, refl, sym, ap, ◌∙◌, true≢false, false, arith, length-append}
+use Rattle.std.proofs.Common.{◌≡◌, ◌≢◌, ℕ, ◌≤◌, pos, ◌≤ℤ◌, true, List, [], ◌∷◌, ◌++◌, length, take, map, All, get_or, codes, refl, sym, ap, ◌∙◌, true≢false, false, arith, length-append}
 use Rattle.std.specs.List.{AllByRecursion, list_all}
 use Rattle.std.specs.Prelude.{option_map}
 use Rattle.std.proofs.lemmas.Int.{ints}
@@ -11,9 +11,8 @@ use Rattle.uhura_plan.specs.declared.key.Side.TheVariants.{Lower, Upper}
 use Rattle.uhura_plan.specs.declared.uncertain.Uncertain.{Uncertain}
 use Rattle.uhura_plan.specs.declared.choice.Choice.{Choice}
 use Rattle.uhura_plan.specs.declared.requirement.Requirement.{Requirement}
-use Rattle.uhura_plan.specs.declared.price.Price.{Price}
 use Rattle.uhura_plan.specs.Name.{is_name}
-use Rattle.uhura_plan.specs.Limits.{IsAmount, IsPrice}
+use Rattle.uhura_plan.specs.Limits.{IsAmount}
 use Rattle.uhura_plan.specs.Lists.{Lists, alternative_names}
 use Rattle.uhura_plan.specs.Sound.{IsName, IsSound, IsSoundUncertain, IsSoundChoice, IsSoundRequirement, IsLiteralAmong}
 use Rattle.uhura_plan.proofs.Building.{few_literals}

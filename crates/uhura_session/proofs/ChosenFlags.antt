@@ -19,11 +19,12 @@ use Rattle.uhura_choice.specs.declared.prefix.Pick.{Pick}
 use Rattle.uhura_choice.specs.Branch.{holds}
 use Rattle.uhura_net.specs.declared.edge.Edge.{Edge}
 use Rattle.uhura_net.specs.Edges.{chosen_edges}
-use Rattle.uhura_net.specs.declared.place.TheConstants.{PLACES, SLOTS}
+use Rattle.uhura_plan.specs.declared.limits.TheConstants.{REQUIREMENTS}
+use Rattle.uhura_net.specs.declared.place.TheConstants.{PLACES}
 use Rattle.uhura_net.specs.Place.{firm_row, place_number, HasPlace, is_loose_key}
 use Rattle.uhura_veto.specs.State.{State}
 use Rattle.uhura_worst.specs.Edges.{requirement_edge, edge_of}
-use Rattle.uhura_worst.specs.Filled.{held, IsTableOf}
+use Rattle.uhura_worst.specs.Filled.{entry_at, IsTableOf}
 use Rattle.uhura_worst.proofs.SoundItems.{Contains-found}
 use Rattle.uhura_session.specs.Chosen.{is_followed, AreFollowed, flag_of, firm_key, slot_key, is_duration, is_fixed, HasFixedFlags, ChoosesSlot, HasFlagsOf}
 use Rattle.uhura_session.proofs.Places.{slot-found}
@@ -59,17 +60,17 @@ firm_row-small Lower = omega arith
 firm_row-small Upper = omega arith
 
 -- it is elsewhere than a loose edge, and than an edge of a duration
-apart-loose : (slot : ℕ) (side : Side) (key : EdgeKey) → slot < SLOTS → is_loose_key key ≡ true → place_number key ≢ place_number (slot_key slot side)
+apart-loose : (slot : ℕ) (side : Side) (key : EdgeKey) → slot < REQUIREMENTS → is_loose_key key ≡ true → place_number key ≢ place_number (slot_key slot side)
 apart-loose slot side (Loose key) placed loose = λ same. search rules
 apart-loose slot side (Steep key) placed loose = λ same. search rules
 apart-loose slot side (Firm key) placed loose = let no : ⊥ = cc in absurd no
 apart-loose slot side (Order d) placed loose = let no : ⊥ = cc in absurd no
 
-apart-duration : (slot : ℕ) (side other : Side) (of : Item) → slot < SLOTS → is_duration of ≡ true → place_number (firm_key of other) ≢ place_number (slot_key slot side)
+apart-duration : (slot : ℕ) (side other : Side) (of : Item) → slot < REQUIREMENTS → is_duration of ≡ true → place_number (firm_key of other) ≢ place_number (slot_key slot side)
 apart-duration slot side other (item.Uncertain d) placed is = λ same. omega (arith, firm_row-small side)
 apart-duration slot side other (item.Requirement n) placed is = let no : ⊥ = cc in absurd no
 
-apart-fixed : (slot : ℕ) (side : Side) (key : EdgeKey) → slot < SLOTS → is_fixed key ≡ true → place_number key ≢ place_number (slot_key slot side)
+apart-fixed : (slot : ℕ) (side : Side) (key : EdgeKey) → slot < REQUIREMENTS → is_fixed key ≡ true → place_number key ≢ place_number (slot_key slot side)
 apart-fixed slot side (Loose key) placed fixed = let no : ⊥ = cc in absurd no
 apart-fixed slot side (Steep key) placed fixed = let no : ⊥ = cc in absurd no
 apart-fixed slot side (Firm key) placed fixed = apart-duration slot side key.side key.item placed fixed
@@ -82,7 +83,7 @@ apart-side : (slot : ℕ) → place_number (slot_key slot Lower) ≢ place_numbe
 apart-side slot = λ same. omega arith
 
 -- fixed flags stay fixed
-fixed-left : (old : List Bool) (slot : ℕ) (side : Side) (active : Bool) → slot < SLOTS → HasFixedFlags old → HasFixedFlags (set old (place_number (slot_key slot side)) active)
+fixed-left : (old : List Bool) (slot : ℕ) (side : Side) (active : Bool) → slot < REQUIREMENTS → HasFixedFlags old → HasFixedFlags (set old (place_number (slot_key slot side)) active)
 fixed-left old slot side active placed flags = record {
   places = length-set old (place_number (slot_key slot side)) active ∙ flags.places;
   loose = λ key key_placed loose. left old slot side active key (apart-loose slot side key placed loose) ∙ flags.loose key key_placed loose;
@@ -90,7 +91,7 @@ fixed-left old slot side active placed flags = record {
 }
 
 -- the two sides of a requirement are written
-pub chooses-slot : (slot : ℕ) (active : Bool) (old mid new : List Bool) → length old ≡ PLACES → slot < SLOTS →
+pub chooses-slot : (slot : ℕ) (active : Bool) (old mid new : List Bool) → length old ≡ PLACES → slot < REQUIREMENTS →
     mid ≡ set old (place_number (slot_key slot Lower)) active → new ≡ set mid (place_number (slot_key slot Upper)) active → ChoosesSlot slot active old new
 chooses-slot slot active old mid new places placed first second = record {
   own = own;
@@ -165,15 +166,15 @@ module _ (state : State) (branch : List Pick) (table : List (Option Edge)) (chos
   -- the edge that is chosen by a flag
   by_flag : (key : EdgeKey) (flag : Bool) → HasPlace key → flag_of chosen key ≡ flag → chosen_edges table chosen (place_number key) ≡ (if flag then edge_of state key else None)
   by_flag key flag placed is =
-      ap (λ (b : Bool). if b then held table key else None) is ∙ ap (λ (edge : Option Edge). if flag then edge else None) (is_table key placed)
+      ap (λ (b : Bool). if b then entry_at table key else None) is ∙ ap (λ (edge : Option Edge). if flag then edge else None) (is_table key placed)
 
-  of_requirement : (slot : ℕ) (side : Side) (found : Option Requirement) → slot < SLOTS → requirement_in state.plan slot ≡ found →
+  of_requirement : (slot : ℕ) (side : Side) (found : Option Requirement) → slot < REQUIREMENTS → requirement_in state.plan slot ≡ found →
       chosen_edges table chosen (place_number (slot_key slot side)) ≡
       (if option_map_or (λ (r : Requirement). holds r.guard branch) found false then option_and_then (λ (r : Requirement). requirement_edge state.vetoes r (slot_key slot side)) found else None)
   of_requirement slot side None placed found =
-      let none : held table (slot_key slot side) ≡ None =
+      let none : entry_at table (slot_key slot side) ≡ None =
       is_table (slot_key slot side) placed ∙ ap (option_and_then (λ (r : Requirement). requirement_edge state.vetoes r (slot_key slot side))) found in
-      nothing_either (flag_of chosen (slot_key slot side)) (held table (slot_key slot side)) none
+      nothing_either (flag_of chosen (slot_key slot side)) (entry_at table (slot_key slot side)) none
   of_requirement slot side (Some r) placed found =
       let member : Contains state.plan.requirements r = Contains-found _ state.plan.requirements r found in
       let flag : flag_of chosen (slot_key slot side) ≡ holds r.guard branch =

@@ -12,7 +12,7 @@ use Rattle.uhura_plan.specs.Lists.{Lists}
 use Rattle.uhura_plan.specs.Find.{requirement_in}
 use Rattle.uhura_plan.specs.Sound.{IsSound}
 use Rattle.uhura_net.specs.declared.edge.Edge.{Edge}
-use Rattle.uhura_net.specs.declared.place.TheConstants.{SLOTS, DURATIONS}
+use Rattle.uhura_plan.specs.declared.limits.TheConstants.{REQUIREMENTS, UNCERTAINS}
 use Rattle.uhura_net.specs.Place.{IsPlacedItem, HasPlace}
 use Rattle.uhura_veto.specs.State.{State}
 use Rattle.uhura_worst.specs.Edges.{requirement_edge, duration_edge, edge_in, edge_of}
@@ -25,14 +25,14 @@ slot-found plan slot r found = (Decides-eqb r.slot slot).0 (passes (λ (q : Requ
 
 -- an item that has an edge has a place
 placed-slot : (state : State) (key : EdgeKey) (slot : ℕ) (edge : Edge) (found : Option Requirement) → IsSound state.plan → requirement_in state.plan slot ≡ found →
-    option_and_then (λ (r : Requirement). requirement_edge state.vetoes r key) found ≡ Some edge → slot < SLOTS
+    option_and_then (λ (r : Requirement). requirement_edge state.vetoes r key) found ≡ Some edge → slot < REQUIREMENTS
 placed-slot state key slot edge None sound found is = absurd (let never : ⊥ = cc in never)
 placed-slot state key slot edge (Some r) sound found is =
     let member : Contains state.plan.requirements r = Contains-found _ state.plan.requirements r found in
     omega (arith, slot-found state.plan slot r found, (sound_requirement state.plan r sound member).slot)
 
 placed-duration : (state : State) (key : EdgeKey) (d : ℕ) (edge : Edge) (found : Option Uncertain) → IsSound state.plan → slice_get state.plan.uncertains d ≡ found →
-    option_and_then (λ (u : Uncertain). duration_edge state.vetoes d u key) found ≡ Some edge → d < DURATIONS
+    option_and_then (λ (u : Uncertain). duration_edge state.vetoes d u key) found ≡ Some edge → d < UNCERTAINS
 placed-duration state key d edge None sound found is = absurd (let never : ⊥ = cc in never)
 placed-duration state key d edge (Some u) sound found is = uncertain-placed state.plan d u sound found
 

@@ -1,5 +1,5 @@
 -- Proposals that loosen and narrow nothing: what they leave, when they cover all durations, and what they cost.
-use Rattle.std.proofs.Common.{◌≡◌, ℕ, ◌+◌, ◌-◌, ◌*◌, List, [], ◌∷◌, refl, arith, Option, None, Some}
+use Rattle.std.proofs.Common.{mul-zero, ◌≡◌, ℕ, ◌+◌, ◌-◌, ◌*◌, List, [], ◌∷◌, refl, arith, Option, None, Some}
 use Rattle.std.specs.Prelude.{ℤ, Contains, slice_get, sum_by}
 use Rattle.std.specs.Option.{option_map_or}
 use Rattle.std.proofs.lemmas.Int.{ints}

@@ -2,7 +2,7 @@
 //! from branch to branch only those of requirements change.
 ghost use Rattle.std.specs.Prelude.{◌≡◌, ◌<◌, length, IfOk, slice_set};
 ghost use Rattle.uhura_plan.specs.Sound.{IsSound};
-ghost use Rattle.uhura_net.specs.declared.place.TheConstants.{SLOTS};
+ghost use Rattle.uhura_plan.specs.declared.limits.TheConstants.{REQUIREMENTS};
 ghost use Rattle.uhura_net.specs.Place.{place_number};
 ghost use Rattle.uhura_session.specs.Chosen.{HasFixedFlags, HasFlagsOf, ChoosesSlot, slot_key, is_fixed};
 
@@ -57,7 +57,7 @@ pub fn choose_active(chosen: &mut [bool], plan: &Plan, branch: &Branch)
 /// Chooses the requirement in this slot where it is active, and otherwise not.
 fn choose_slot(chosen: &mut [bool], slot: u32, active: bool)
     requires places { length chosen.old ≡ PLACES }
-    requires slot { slot < SLOTS }
+    requires slot { slot < REQUIREMENTS }
     ensures { ChoosesSlot slot active chosen.old chosen.new }
 {
     choose_side(chosen, slot, Side::Lower, active);
@@ -67,7 +67,7 @@ fn choose_slot(chosen: &mut [bool], slot: u32, active: bool)
 /// Sets the flag of the edge of a side that isn't loose.
 fn choose_side(chosen: &mut [bool], slot: u32, side: Side, active: bool)
     requires places { length chosen.old ≡ PLACES }
-    requires slot { slot < SLOTS }
+    requires slot { slot < REQUIREMENTS }
     ensures { chosen.new ≡ slice_set chosen.old (place_number (slot_key slot side)) active }
 {
     let key = SideKey {
