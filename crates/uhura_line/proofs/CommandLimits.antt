@@ -15,7 +15,7 @@ use Rattle.uhura_plan.specs.declared.price.Price.{Price}
 use Rattle.uhura_plan.specs.Sides.{rate_in}
 use Rattle.uhura_plan.specs.declared.requirement.Bounded.{Bounded}
 use Rattle.uhura_plan.specs.Limits.{IsBound, IsRangeEnd, IsUnitPrice, IsSecond, IsRate, IsAmount, IsPrice, AreWithinLimits}
-use Rattle.uhura_plan.proofs.ChangedUncertain.{end_carried}
+use Rattle.uhura_plan.proofs.StaysSound.{end_carried}
 use Rattle.uhura_line.specs.declared.command.Command.{Command}
 use Rattle.uhura_line.specs.declared.command.Command.TheVariants as command
 use Rattle.uhura_line.specs.Reads.{IsCommand, count_word, bound_word, past_of, rated_of, priced_of, alternative_pairs, magnitude_of, is_number, is_bound, is_first, is_units, is_above, is_past, is_amount, is_rated, is_priced, if_there}
