@@ -1,7 +1,7 @@
 -- The answer of an edit of the plan is the state's.
 use Rattle.std.proofs.Common.{◌≡◌, Option, Some, None, option_map, Result, Ok, Err, ap, ◌∙◌}
 use Rattle.uhura_plan.specs.declared.refusal.EditRefusal.{EditRefusal}
-use Rattle.uhura_plan.specs.Refusals.{Answers}
+use Rattle.uhura_plan.specs.Refusals.{Answers, AnswersAlways}
 use Rattle.uhura_command.specs.declared.state.refusal.StateRefusal.{StateRefusal}
 use Rattle.uhura_command.specs.Apply.{of_edit, AnswersFirst, IsPassedOn}
 
@@ -12,3 +12,11 @@ answers_first None (Ok done) result answered passed = rw passed tt
 answers_first None (Err refusal) result answered passed = rw passed (ap of_edit answered)
 answers_first (Some refusal) (Ok done) result answered passed = let no : ⊥ = cc in absurd no
 answers_first (Some refusal) (Err other) result answered passed = let same : other ≡ refusal = cc in passed ∙ ap (λ r. Err (of_edit r)) same
+
+-- and so where the edit takes no memory
+pub answers_always : (first : Option EditRefusal) (edited : Result (Unit {0}) EditRefusal) (result : Result (Unit {0}) StateRefusal)
+    → AnswersAlways first edited → IsPassedOn edited result → AnswersFirst (option_map of_edit first) result
+answers_always None (Ok done) result answered passed = rw passed tt
+answers_always None (Err refusal) result answered passed = let no : ⊥ = cc in absurd no
+answers_always (Some refusal) (Ok done) result answered passed = let no : ⊥ = cc in absurd no
+answers_always (Some refusal) (Err other) result answered passed = let same : other ≡ refusal = cc in passed ∙ ap (λ r. Err (of_edit r)) same

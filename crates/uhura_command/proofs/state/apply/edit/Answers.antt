@@ -1,8 +1,8 @@
 -- Each number of the command is within the limits of its place, as the plan's edit asks.
 use Rattle.uhura_line.proofs.CommandLimits.{uncertain_within, choice_within, require_within, new_bound_within, new_price_within, new_rate_within, range_within, new_cost_within}
 use Rattle.std.proofs.Common.{rules, ℕ, List, subst}
-use Rattle.uhura_plan.specs.Refusals.{Answers, uncertain_refusal, requirement_refusal}
-use Rattle.uhura_command.proofs.Applying.{answers_first}
+use Rattle.uhura_plan.specs.Refusals.{Answers, uncertain_refusal, requirement_refusal, bound_refusal}
+use Rattle.uhura_command.proofs.Applying.{answers_first, answers_always}
 use Rattle.uhura_command.proofs.state.apply.edit.Goals as goal
 
 pub add_uncertain-requires-clause-lower : goal.add_uncertain-requires-clause-lower
@@ -59,3 +59,9 @@ returns-in-Require-clause-answer c = λ vetoes.
     let answered : Answers (first r.guard) c.add_requirement.result =
     subst (λ guard. Answers (first guard) c.add_requirement.result) c.as_slice-in-Require.ensures c.add_requirement.ensures.answer in
     rw r.is (answers_first (first r.guard) c.add_requirement.result c.pass_on-in-Require.result answered c.pass_on-in-Require.ensures)
+
+pub returns-in-Bound-clause-answer : goal.returns-in-Bound-clause-answer
+returns-in-Bound-clause-answer c = λ vetoes.
+    let b = c.in-Bound in
+    let first = bound_refusal c.args.plan.now b.name b.side b.bound in
+    rw b.is (answers_always first c.set_bound.result c.pass_on-in-Bound.result c.set_bound.ensures.answer c.pass_on-in-Bound.ensures)
