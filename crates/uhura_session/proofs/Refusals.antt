@@ -6,7 +6,7 @@ use Rattle.uhura_line.specs.declared.command.Command.{Command}
 use Rattle.uhura_line.specs.declared.command.Command.TheVariants as command
 use Rattle.uhura_line.specs.declared.refusal.LineRefusal.{LineRefusal}
 use Rattle.uhura_command.specs.declared.state.refusal.StateRefusal.{StateRefusal}
-use Rattle.uhura_command.specs.Apply.{IsEdit, refusal_of}
+use Rattle.uhura_command.specs.Apply.{refusal_of}
 use Rattle.uhura_command.specs.Errors.{begins_as_error}
 use Rattle.uhura_command.specs.Script.{commands_of, command_line}
 use Rattle.uhura_command.proofs.ErrorLines.{line_error, state_error, command_no_error}
