@@ -6,22 +6,21 @@ use Rattle.indexmap.specs.IndexMap.{insert_entry}
 use Rattle.std.proofs.Math.Seq.{take-append_seam}
 use Rattle.std.proofs.lemmas.Bool.{cases_lt}
 use Rattle.std.proofs.lemmas.List.{length_push, map_push, get_or-map, length-map, take-append-le}
-use Rattle.std.proofs.lemmas.List.Elements.{All-weaker}
 use Rattle.std.proofs.lemmas.Map.Keys.{IsDistinct-push}
 use Rattle.std.proofs.lemmas.Option.{slice_get_within}
-use Rattle.uhura_plan.specs.declared.guard.Literal.{Literal}
 use Rattle.uhura_plan.specs.declared.uncertain.Uncertain.{Uncertain}
 use Rattle.uhura_plan.specs.declared.choice.Choice.{Choice}
 use Rattle.uhura_plan.specs.declared.requirement.Requirement.{Requirement}
 use Rattle.uhura_plan.specs.Lists.{Lists, choice_names, alternative_names}
 use Rattle.uhura_plan.specs.Find.{choice_named, place_of}
 use Rattle.uhura_plan.specs.Limits.{IsAmount}
-use Rattle.uhura_plan.specs.Sound.{IsName, AreDistinct, IsLiteralAmong, IsGuardAmong, HasDistinctNames, IsSoundChoice, IsSoundRequirement, IsSound}
+use Rattle.uhura_plan.specs.Sound.{IsName, AreDistinct, IsGuardAmong, HasDistinctNames, IsSoundChoice, IsSound}
 use Rattle.uhura_plan.specs.Tables.{lists_of, HoldsPlan}
 use Rattle.uhura_plan.specs.Edits.{with_choice}
 use Rattle.uhura_plan.specs.Refusals.{choice_refusal}
 use Rattle.uhura_plan.proofs.Positions.{none_passes}
 use Rattle.uhura_plan.proofs.Insertions.{values_added, keys_added}
+use Rattle.uhura_plan.proofs.More.{KeepsLiterals, stay_sound}
 use Rattle.uhura_plan.proofs.Products.{product-push}
 use Rattle.uhura_plan.proofs.Repeats.{AreDistinct-once}
 use Rattle.uhura_plan.proofs.Building.{choice_within}
@@ -38,14 +37,11 @@ slice_get-last : {X : Type 0} (xs : List X) (y : X) → slice_get (xs ++ y ∷ [
 slice_get-last [] y = refl
 slice_get-last (x ∷ xs) y = slice_get-last xs y
 
--- a guard is about more choices too
-IsGuardAmong-more : (choices : List Choice) (added : Choice) (guard : List Literal) → IsGuardAmong choices guard → IsGuardAmong (choices ++ added ∷ []) guard
-IsGuardAmong-more choices added guard old = record {
-  among = All-weaker (IsLiteralAmong choices) (IsLiteralAmong (choices ++ added ∷ []))
-      (λ literal among. subst (λ o. IsSomeAnd o (λ c. literal.alternative < length c.alternatives)) (sym (slice_get-kept choices added literal.choice (choice_within choices literal among))) among)
-      guard old.among;
-  once = old.once;
-}
+-- a literal is about more choices too
+literals_more : (choices : List Choice) (added : Choice) → KeepsLiterals choices (choices ++ added ∷ [])
+literals_more choices added literal among =
+    subst (λ o. IsSomeAnd o (λ c. literal.alternative < length c.alternatives))
+    (sym (slice_get-kept choices added literal.choice (choice_within choices literal among))) among
 
 -- what the call gives of a choice is within its limits, and its guard is about the choices that are there
 pub record IsMadeOf (plan : Lists) (made : Choice) : Type 0 where
@@ -73,20 +69,6 @@ module _ (plan : Lists) (guard : List (List ℕ × List ℕ)) (made : Choice) (s
         (none_passes (bytes_eq made.name) (choice_names plan.choices) passed.name_free));
     requirements = sound.distinct.requirements;
     slots = sound.distinct.slots;
-  }
-
-  -- a requirement stays sound
-  IsSoundRequirement-more_choices : (requirement : Requirement) → IsSoundRequirement plan requirement → IsSoundRequirement (with_choice plan made) requirement
-  IsSoundRequirement-more_choices requirement old = record {
-    name = old.name;
-    slot = old.slot;
-    from = old.from;
-    to = old.to;
-    two_events = old.two_events;
-    lower = old.lower;
-    upper = old.upper;
-    ordered = old.ordered;
-    guard = IsGuardAmong-more plan.choices made requirement.guard old.guard;
   }
 
   module _ (of : IsMadeOf plan made) where
@@ -139,7 +121,9 @@ module _ (plan : Lists) (guard : List (List ℕ × List ℕ)) (made : Choice) (s
       events = sound.events;
       uncertains = sound.uncertains;
       choices = choices_sound;
-      requirements = All-weaker _ _ IsSoundRequirement-more_choices plan.requirements sound.requirements;
+      requirements =
+          stay_sound plan (with_choice plan made) (record { events = omega arith; uncertains = omega arith; literals = literals_more plan.choices made })
+          plan.requirements sound.requirements;
     }
 
 module _ (events ends : List (List ℕ)) (uncertains : List (List ℕ × Uncertain)) (entries : List (List ℕ × Choice)) (requirements : List (List ℕ × Requirement)) (plan : Lists)

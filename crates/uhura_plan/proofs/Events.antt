@@ -1,12 +1,12 @@
 -- A plan with one more event is sound.
-use Rattle.std.proofs.Common.{◌≡◌, ℕ, ◌+◌, ◌<◌, ◌≤◌, true≢false, false, List, [], ◌∷◌, ◌++◌, length, Contains, bytes_eq, Option, None, Some, is_some, option_map, refl, sym, ap, subst, ◌∙◌, arith, ⊎_elim}
+use Rattle.std.proofs.Common.{◌≡◌, ℕ, ◌+◌, ◌<◌, true≢false, false, List, [], ◌∷◌, ◌++◌, length, Contains, bytes_eq, Option, None, Some, is_some, option_map, refl, sym, ap, subst, ◌∙◌, arith, ⊎_elim}
 use Rattle.indexmap.specs.IndexSet.{insert_key}
 use Rattle.std.specs.Option.{option_or}
 use Rattle.std.specs.Cmp.Lexicographic.{nat_list_eq_equiv}
 use Rattle.std.proofs.lemmas.List.{length_push}
 use Rattle.std.proofs.lemmas.List.Elements.{All-push, All-weaker, Contains-push_cases, Contains-get_or}
 use Rattle.std.proofs.lemmas.Map.Keys.{IsDistinct-push}
-use Rattle.uhura_plan.specs.declared.key.EventRef.{EventRef}
+use Rattle.uhura_plan.specs.declared.limits.TheConstants.{EVENTS}
 use Rattle.uhura_plan.specs.declared.key.EventRef.TheVariants.{Controllable, End}
 use Rattle.uhura_plan.specs.declared.uncertain.Uncertain.{Uncertain}
 use Rattle.uhura_plan.specs.declared.requirement.Requirement.{Requirement}
@@ -14,15 +14,11 @@ use Rattle.uhura_plan.specs.declared.choice.Choice.{Choice}
 use Rattle.uhura_plan.specs.Lists.{Lists, end_names}
 use Rattle.uhura_plan.specs.Tables.{lists_of, HoldsPlan}
 use Rattle.uhura_plan.specs.Find.{find_event, place_of}
-use Rattle.uhura_plan.specs.Sound.{IsName, IsEventAmong, HasDistinctNames, IsSoundUncertain, IsSoundRequirement, IsSound}
+use Rattle.uhura_plan.specs.Sound.{IsName, HasDistinctNames, IsSoundUncertain, IsSound}
 use Rattle.uhura_plan.specs.Edits.{with_event}
 use Rattle.uhura_plan.proofs.Positions.{none_passes, not_contained}
 use Rattle.uhura_plan.proofs.Insertions.{insert_key-new}
-
--- an event stays an event where there are more of them
-pub more_events : (fewer more uncertains : ℕ) (event : EventRef) → fewer ≤ more → IsEventAmong fewer uncertains event → IsEventAmong more uncertains event
-more_events fewer more uncertains (Controllable e) le among = omega (arith, le, among)
-more_events fewer more uncertains (End d) le among = among
+use Rattle.uhura_plan.proofs.More.{stay_sound}
 
 -- a name of no event is the name of no controllable event, and of no end
 pub record IsNoEvent (plan : Lists) (name : List ℕ) : Type 0 where
@@ -70,22 +66,8 @@ module _ (plan : Lists) (name : List ℕ) (sound : IsSound plan) (new : IsNoEven
     upper_rate = old.upper_rate;
   }
 
-  -- a requirement stays sound
-  IsSoundRequirement-more : (requirement : Requirement) → IsSoundRequirement plan requirement → IsSoundRequirement (with_event plan name) requirement
-  IsSoundRequirement-more requirement old = record {
-    name = old.name;
-    slot = old.slot;
-    from = more_events _ _ _ requirement.from (omega (arith, length_push plan.events name)) old.from;
-    to = more_events _ _ _ requirement.to (omega (arith, length_push plan.events name)) old.to;
-    two_events = old.two_events;
-    lower = old.lower;
-    upper = old.upper;
-    ordered = old.ordered;
-    guard = old.guard;
-  }
-
   -- the plan stays sound
-  pub IsSound-with_event : IsName name → length plan.events + length plan.uncertains < 512 → IsSound (with_event plan name)
+  pub IsSound-with_event : IsName name → length plan.events + length plan.uncertains < EVENTS → IsSound (with_event plan name)
   IsSound-with_event named room = record {
     counts = record {
       events = omega (arith, length_push plan.events name, room);
@@ -98,7 +80,9 @@ module _ (plan : Lists) (name : List ℕ) (sound : IsSound plan) (new : IsNoEven
     events = All-push IsName plan.events name sound.events named;
     uncertains = All-weaker _ _ IsSoundUncertain-more plan.uncertains sound.uncertains;
     choices = sound.choices;
-    requirements = All-weaker _ _ IsSoundRequirement-more plan.requirements sound.requirements;
+    requirements =
+        stay_sound plan (with_event plan name) (record { events = omega (arith, length_push plan.events name); uncertains = omega arith; literals = λ _ among. among })
+        plan.requirements sound.requirements;
   }
 
 module _ (events : List (List ℕ)) (uncertains : List (List ℕ × Uncertain)) (choices : List (List ℕ × Choice)) (requirements : List (List ℕ × Requirement)) (plan : Lists) (keys : List (List ℕ)) (name : List ℕ)
@@ -112,7 +96,7 @@ module _ (events : List (List ℕ)) (uncertains : List (List ℕ × Uncertain)) 
       ∙ ap (λ p. with_event p name) view
 
   -- and it is sound
-  pub HoldsPlan-with_event : {ends : List (List ℕ)} → HoldsPlan events ends uncertains choices requirements → IsName name → length plan.events + length plan.uncertains < 512 → HoldsPlan keys ends uncertains choices requirements
+  pub HoldsPlan-with_event : {ends : List (List ℕ)} → HoldsPlan events ends uncertains choices requirements → IsName name → length plan.events + length plan.uncertains < EVENTS → HoldsPlan keys ends uncertains choices requirements
   HoldsPlan-with_event held named room = record {
     end_keys = held.end_keys;
     uncertain_keys = held.uncertain_keys;

@@ -1,16 +1,15 @@
 pub mod Building
-pub mod ChangedChoice
-pub mod ChangedRequirement
-pub mod ChangedUncertain
+pub mod Changed
 pub mod Choices
-pub mod Costs
-pub mod Entries
+pub mod Dropped
 pub mod Events
 pub mod Finds
 pub mod Guards
 pub mod Insertions
 pub mod Kept
 pub mod Literals
+pub mod More
+pub mod Named
 pub mod Names
 pub mod Positions
 pub mod Products
@@ -18,4 +17,5 @@ pub mod Refusals
 pub mod Repeats
 pub mod Requirements
 pub mod Slots
+pub mod StaysSound
 pub mod Uncertains

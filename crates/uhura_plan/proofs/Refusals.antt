@@ -3,13 +3,14 @@ use Rattle.std.proofs.Common.{◌≡◌, ℕ, ◌<◌, ◌≤ℤ◌, ℤ, Bool, 
 use Rattle.std.specs.List.{list_any}
 use Rattle.std.proofs.lemmas.Bool.Decides.{nat_tests}
 use Rattle.std.proofs.lemmas.Int.{ints}
+use Rattle.uhura_plan.specs.declared.limits.TheConstants.{ALTERNATIVES, BRANCHES, CHOICES, EVENTS, REQUIREMENTS, UNCERTAINS}
 use Rattle.uhura_plan.specs.declared.requirement.Bounded.{Bounded}
 use Rattle.uhura_plan.specs.declared.refusal.EditRefusal.{EditRefusal}
 use Rattle.uhura_plan.specs.declared.refusal.EditRefusal.TheVariants.{Taken, Unknown, Kind, Empty, Full}
 use Rattle.uhura_plan.specs.Lists.{Lists}
 use Rattle.uhura_plan.specs.Find.{find_event, uncertain_named, choice_named, requirement_named, literal_named}
 use Rattle.uhura_plan.specs.Limits.{AreOrdered}
-use Rattle.uhura_plan.specs.Refusals.{refuse_if, first_of, carried, known_names, unknown_in, repeated_at, repeated_in, empty_between, is_end, event_count, full_of_events, uncertain_refusal, product_with, choice_refusal, requirement_refusal}
+use Rattle.uhura_plan.specs.Refusals.{refuse_if, full, first_of, carried, known_names, unknown_in, repeated_at, repeated_in, empty_between, is_end, event_count, full_of_events, uncertain_refusal, product_with, choice_refusal, requirement_refusal}
 use Rattle.uhura_plan.proofs.Positions.{none_passes}
 use Rattle.uhura_plan.proofs.Literals.{or_false}
 
@@ -37,24 +38,24 @@ bounds_ordered None (Some upper) none = tt
 bounds_ordered None None none = tt
 
 -- a limit that isn't reached leaves room
-room_left : (n limit : ℕ) → refuse_if (nat_le limit n) (Full limit n) ≡ None → n < limit
-room_left n limit none = let full = test_fails (nat_le limit n) (Full limit n) none in grind (arith, nat_tests)
+room_left : (limit n : ℕ) → full limit n ≡ None → n < limit
+room_left limit n none = let reached = test_fails (nat_le limit n) (Full limit n) none in grind (arith, nat_tests)
 
 -- a limit that isn't passed bounds the number
-within_limit : (n limit : ℕ) (refusal : EditRefusal) → refuse_if (nat_lt limit n) refusal ≡ None → n ≤ limit
-within_limit n limit refusal none = let over = test_fails (nat_lt limit n) refusal none in grind (arith, nat_tests)
+within_limit : (limit n : ℕ) (refusal : EditRefusal) → refuse_if (nat_lt limit n) refusal ≡ None → n ≤ limit
+within_limit limit n refusal none = let over = test_fails (nat_lt limit n) refusal none in grind (arith, nat_tests)
 
--- where 512 events and ends aren't there, there is room for one more
-pub event_room : (plan : Lists) → full_of_events plan ≡ None → event_count plan < 512
-event_room plan none = room_left (event_count plan) 512 none
+-- where fewer events and ends than may be are there, there is room for one more
+pub event_room : (plan : Lists) → full_of_events plan ≡ None → event_count plan < EVENTS
+event_room plan none = room_left EVENTS (event_count plan) none
 
 -- what a duration that isn't refused meets
 pub record IsUnrefusedUncertain (plan : Lists) (name start end : List ℕ) (lower upper : ℤ) : Type 0 where
   pub name_free : is_some (uncertain_named plan name) ≡ false
   pub end_free : is_some (find_event plan end) ≡ false
   pub ordered : lower ≤ℤ upper
-  pub room : length plan.uncertains < 256
-  pub event_room : event_count plan < 512
+  pub room : length plan.uncertains < UNCERTAINS
+  pub event_room : event_count plan < EVENTS
 
 pub unrefused_uncertain : (plan : Lists) (name start end : List ℕ) (lower upper : ℤ) → uncertain_refusal plan name start end lower upper ≡ None → IsUnrefusedUncertain plan name start end lower upper
 unrefused_uncertain plan name start end lower upper none =
@@ -65,14 +66,14 @@ unrefused_uncertain plan name start end lower upper none =
     ∷ refuse_if (is_none (find_event plan start)) (Unknown 1)
     ∷ refuse_if (is_end (find_event plan start)) Kind
     ∷ empty_between (Some lower) (Some upper)
-    ∷ refuse_if (nat_le 256 (length plan.uncertains)) (Full 256 (length plan.uncertains))
+    ∷ full UNCERTAINS (length plan.uncertains)
     ∷ full_of_events plan
     ∷ []) none in
     record {
       name_free = test_fails (is_some (uncertain_named plan name)) Taken (passed 0);
       end_free = test_fails (is_some (find_event plan end)) Taken (passed 1);
       ordered = bounds_ordered (Some lower) (Some upper) (passed 5);
-      room = room_left (length plan.uncertains) 256 (passed 6);
+      room = room_left UNCERTAINS (length plan.uncertains) (passed 6);
       event_room = event_room plan (passed 7);
     }
 
@@ -85,9 +86,9 @@ pub record IsUnrefusedChoice (plan : Lists) (name : List ℕ) (alternatives : Li
   pub name_free : is_some (choice_named plan name) ≡ false
   pub names_once : repeated_at (map (λ a. a.0) alternatives) ≡ None
   pub known : unknown_in plan (1 + length alternatives) guard ≡ None
-  pub room : length plan.choices < 16
-  pub few : length alternatives ≤ 16
-  pub product : product_with plan alternatives ≤ 65536
+  pub room : length plan.choices < CHOICES
+  pub few : length alternatives ≤ ALTERNATIVES
+  pub product : product_with plan alternatives ≤ BRANCHES
 
 pub unrefused_choice : (plan : Lists) (name : List ℕ) (alternatives : List (List ℕ × ℕ)) (guard : List (List ℕ × List ℕ)) → choice_refusal plan name alternatives guard ≡ None → IsUnrefusedChoice plan name alternatives guard
 unrefused_choice plan name alternatives guard none =
@@ -96,17 +97,17 @@ unrefused_choice plan name alternatives guard none =
     ∷ refuse_if (is_some (repeated_at (map (λ a. a.0) alternatives))) Taken
     ∷ unknown_in plan (1 + length alternatives) guard
     ∷ repeated_in guard
-    ∷ refuse_if (nat_le 16 (length plan.choices)) (Full 16 (length plan.choices))
-    ∷ refuse_if (nat_lt 16 (length alternatives)) (Full 16 (carried (length alternatives)))
-    ∷ refuse_if (nat_lt 65536 (product_with plan alternatives)) (Full 65536 (product_with plan alternatives))
+    ∷ full CHOICES (length plan.choices)
+    ∷ refuse_if (nat_lt ALTERNATIVES (length alternatives)) (Full ALTERNATIVES (carried (length alternatives)))
+    ∷ refuse_if (nat_lt BRANCHES (product_with plan alternatives)) (Full BRANCHES (product_with plan alternatives))
     ∷ []) none in
     record {
       name_free = test_fails (is_some (choice_named plan name)) Taken (passed 0);
       names_once = no_value _ (test_fails (is_some (repeated_at (map (λ a. a.0) alternatives))) Taken (passed 1));
       known = passed 2;
-      room = room_left (length plan.choices) 16 (passed 4);
-      few = within_limit (length alternatives) 16 (Full 16 (carried (length alternatives))) (passed 5);
-      product = within_limit (product_with plan alternatives) 65536 (Full 65536 (product_with plan alternatives)) (passed 6);
+      room = room_left CHOICES (length plan.choices) (passed 4);
+      few = within_limit ALTERNATIVES (length alternatives) (Full ALTERNATIVES (carried (length alternatives))) (passed 5);
+      product = within_limit BRANCHES (product_with plan alternatives) (Full BRANCHES (product_with plan alternatives)) (passed 6);
     }
 
 -- what a requirement that isn't refused meets
@@ -115,7 +116,7 @@ pub record IsUnrefusedRequirement (plan : Lists) (name from to : List ℕ) (lowe
   pub known : unknown_in plan 3 guard ≡ None
   pub two_events : bytes_eq from to ≡ false
   pub ordered : AreOrdered lower.bound upper.bound
-  pub room : length plan.requirements < 2048
+  pub room : length plan.requirements < REQUIREMENTS
 
 pub unrefused_requirement : (plan : Lists) (name from to : List ℕ) (lower upper : Bounded) (guard : List (List ℕ × List ℕ)) → requirement_refusal plan name from to lower upper guard ≡ None
     → IsUnrefusedRequirement plan name from to lower upper guard
@@ -128,14 +129,14 @@ unrefused_requirement plan name from to lower upper guard none =
     ∷ refuse_if (bytes_eq from to) Kind
     ∷ empty_between lower.bound upper.bound
     ∷ repeated_in guard
-    ∷ refuse_if (nat_le 2048 (length plan.requirements)) (Full 2048 (length plan.requirements))
+    ∷ full REQUIREMENTS (length plan.requirements)
     ∷ []) none in
     record {
       name_free = test_fails (is_some (requirement_named plan name)) Taken (passed 0);
       known = passed 3;
       two_events = test_fails (bytes_eq from to) Kind (passed 4);
       ordered = bounds_ordered lower.bound upper.bound (passed 5);
-      room = room_left (length plan.requirements) 2048 (passed 7);
+      room = room_left REQUIREMENTS (length plan.requirements) (passed 7);
     }
 
 -- no value comes from none

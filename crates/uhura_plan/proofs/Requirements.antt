@@ -4,10 +4,11 @@ use Rattle.std.specs.Map.{values_of}
 use Rattle.std.specs.Cmp.Lexicographic.{nat_list_eq_equiv}
 use Rattle.indexmap.specs.IndexMap.{insert_entry}
 use Rattle.std.proofs.lemmas.List.{length_push, map_push}
-use Rattle.std.proofs.lemmas.List.Elements.{All-push, All-weaker, Contains-get_or}
+use Rattle.std.proofs.lemmas.List.Elements.{All-push, Contains-get_or}
 use Rattle.std.proofs.lemmas.List.Quantifiers.{all_pairs_push}
 use Rattle.std.proofs.lemmas.Map.Keys.{IsDistinct-push}
 use Rattle.std.proofs.lemmas.Slice.Eq.{bytes_eq-Decides}
+use Rattle.uhura_plan.specs.declared.limits.TheConstants.{REQUIREMENTS}
 use Rattle.uhura_plan.specs.declared.uncertain.Uncertain.{Uncertain}
 use Rattle.uhura_plan.specs.declared.choice.Choice.{Choice}
 use Rattle.uhura_plan.specs.declared.requirement.Bounded.{Bounded}
@@ -22,6 +23,7 @@ use Rattle.uhura_plan.specs.Refusals.{requirement_refusal}
 use Rattle.uhura_plan.proofs.Positions.{none_passes}
 use Rattle.uhura_plan.proofs.Insertions.{values_added, keys_added}
 use Rattle.uhura_plan.proofs.Finds.{event_among, same_event}
+use Rattle.uhura_plan.proofs.More.{stay_sound}
 use Rattle.uhura_plan.proofs.Refusals.{unrefused_requirement}
 
 -- bounds stay in order where they are named anew
@@ -54,21 +56,7 @@ module _ (plan : Lists) (name from to : List ℕ) (lower upper : Bounded) (guard
             i j d before within;
       }
 
-  -- an earlier requirement stays sound
-  IsSoundRequirement-earlier : (requirement : Requirement) → IsSoundRequirement plan requirement → IsSoundRequirement (with_requirement plan made) requirement
-  IsSoundRequirement-earlier requirement old = record {
-    name = old.name;
-    slot = old.slot;
-    from = old.from;
-    to = old.to;
-    two_events = old.two_events;
-    lower = old.lower;
-    upper = old.upper;
-    ordered = old.ordered;
-    guard = old.guard;
-  }
-
-  module _ (named : IsName name) (within_lower : AreWithinLimits lower) (within_upper : AreWithinLimits upper) (among : IsGuardAmong plan.choices made.guard) (below : made.slot < 2048) where
+  module _ (named : IsName name) (within_lower : AreWithinLimits lower) (within_upper : AreWithinLimits upper) (among : IsGuardAmong plan.choices made.guard) (below : made.slot < REQUIREMENTS) where
     -- the requirement made is sound
     IsSoundRequirement-made : IsSoundRequirement (with_requirement plan made) made
     IsSoundRequirement-made = record {
@@ -105,7 +93,8 @@ module _ (plan : Lists) (name from to : List ℕ) (lower upper : Bounded) (guard
           choices = sound.choices;
           requirements =
               All-push (IsSoundRequirement (with_requirement plan made)) plan.requirements made
-              (All-weaker _ _ IsSoundRequirement-earlier plan.requirements sound.requirements) IsSoundRequirement-made;
+              (stay_sound plan (with_requirement plan made) (record { events = omega arith; uncertains = omega arith; literals = λ _ among. among }) plan.requirements sound.requirements)
+              IsSoundRequirement-made;
         }
 
 module _ (events : List (List ℕ)) (uncertains : List (List ℕ × Uncertain)) (choices : List (List ℕ × Choice)) (entries : List (List ℕ × Requirement)) (plan : Lists) (inserted : List (List ℕ × Requirement))
@@ -127,7 +116,7 @@ module _ (events : List (List ℕ)) (uncertains : List (List ℕ × Uncertain)) 
       ap Made requirements_added ∙ ap (λ p. with_requirement p made) view
 
   -- and it is sound
-  pub HoldsPlan-with_requirement : IsName name → AreWithinLimits lower → AreWithinLimits upper → IsGuardAmong plan.choices made.guard → made.slot < 2048 → HoldsPlan events ends uncertains choices inserted
+  pub HoldsPlan-with_requirement : IsName name → AreWithinLimits lower → AreWithinLimits upper → IsGuardAmong plan.choices made.guard → made.slot < REQUIREMENTS → HoldsPlan events ends uncertains choices inserted
   HoldsPlan-with_requirement named within_lower within_upper among below = record {
     end_keys = held.end_keys;
     uncertain_keys = held.uncertain_keys;

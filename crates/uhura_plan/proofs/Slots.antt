@@ -8,6 +8,7 @@ use Rattle.std.proofs.lemmas.List.Elements.{Contains-push, Contains-push_cases, 
 use Rattle.std.proofs.lemmas.List.Quantifiers.{position-Some}
 use Rattle.std.proofs.lemmas.Map.Steps.{le-length_from_below}
 use Rattle.std.proofs.lemmas.Map.Views.{list_any-from_Contains}
+use Rattle.uhura_plan.specs.declared.limits.TheConstants.{REQUIREMENTS}
 use Rattle.uhura_plan.specs.declared.requirement.Requirement.{Requirement}
 use Rattle.uhura_plan.specs.Lists.{slots}
 use Rattle.uhura_plan.specs.Slots.{MarksSlots}
@@ -21,11 +22,11 @@ get_or-replicate_default (suc n) zero x = refl
 get_or-replicate_default (suc n) (suc i) x = get_or-replicate_default n i x
 
 -- no mark stands for no requirement
-pub marks_none : (used : List Bool) → used ≡ replicate 2048 false → MarksSlots [] used
+pub marks_none : (used : List Bool) → used ≡ replicate REQUIREMENTS false → MarksSlots [] used
 marks_none used none = record {
-  capacity = ap length none ∙ length-replicate 2048 false;
+  capacity = ap length none ∙ length-replicate REQUIREMENTS false;
   marked = λ slot contained. absurd (omega (arith, contained.1));
-  only = λ slot mark. absurd (true≢false (sym mark ∙ (ap (λ marks. get_or marks slot false) none ∙ get_or-replicate_default 2048 slot false)));
+  only = λ slot mark. absurd (true≢false (sym mark ∙ (ap (λ marks. get_or marks slot false) none ∙ get_or-replicate_default REQUIREMENTS slot false)));
 }
 
 -- a mark stays where another is set, and stands where it is set
@@ -45,7 +46,7 @@ mark_cases requirements used at slot marks mark = by (eqb slot at) refl
     by false other = Contains-append_left (slots requirements) (at ∷ []) slot (marks.only slot (mark_old used at slot (λ same. true≢false (sym ((Decides-eqb slot at).1 same) ∙ other)) mark))
 
 -- one more requirement's slot is marked
-marks_more : (requirements : List Requirement) (used : List Bool) (added : Requirement) → MarksSlots requirements used → added.slot < 2048 → MarksSlots (requirements ++ added ∷ []) (set used added.slot true)
+marks_more : (requirements : List Requirement) (used : List Bool) (added : Requirement) → MarksSlots requirements used → added.slot < REQUIREMENTS → MarksSlots (requirements ++ added ∷ []) (set used added.slot true)
 marks_more requirements used added marks below =
     let within : added.slot < length used = omega (arith, marks.capacity, below) in
     let more : slots (requirements ++ added ∷ []) ≡ slots requirements ++ added.slot ∷ [] = map_push (λ r. r.slot) requirements added in
@@ -60,11 +61,11 @@ marks_more requirements used added marks below =
     }
 
 -- the next requirement's slot is marked
-pub marks_next : (requirements : List Requirement) (used : List Bool) (i : ℕ) (next : Requirement) → i < length requirements → next ≡ get_or requirements i next → All (λ r. r.slot < 2048) requirements → MarksSlots (take i requirements) used → MarksSlots (take (i + 1) requirements) (set used next.slot true)
+pub marks_next : (requirements : List Requirement) (used : List Bool) (i : ℕ) (next : Requirement) → i < length requirements → next ≡ get_or requirements i next → All (λ r. r.slot < REQUIREMENTS) requirements → MarksSlots (take i requirements) used → MarksSlots (take (i + 1) requirements) (set used next.slot true)
 marks_next requirements used i next within is below marks =
     subst (λ rs. MarksSlots rs (set used next.slot true))
     (ap (λ r. take i requirements ++ r ∷ []) is ∙ sym (take_more requirements i next within))
-    (marks_more (take i requirements) used next marks (subst (λ r. r.slot < 2048) (sym is) (below i next within)))
+    (marks_more (take i requirements) used next marks (subst (λ r. r.slot < REQUIREMENTS) (sym is) (below i next within)))
 
 -- where no place is without a mark, each has one
 all_marked : (used : List Bool) (slot : ℕ) → slot < length used → position not used ≡ None → get_or used slot false ≡ true
@@ -75,14 +76,14 @@ all_marked used slot within none = by (get_or used slot false) refl
     by false free = absurd (true≢false (sym (any_passes_at not used slot false within (ap not free)) ∙ none_passes not used (ap is_some none)))
 
 -- with fewer requirements than slots, some slot isn't marked
-pub unmarked : (requirements : List Requirement) (used : List Bool) → MarksSlots requirements used → length requirements < 2048 → IsSome (position not used)
+pub unmarked : (requirements : List Requirement) (used : List Bool) → MarksSlots requirements used → length requirements < REQUIREMENTS → IsSome (position not used)
 unmarked requirements used marks few = by (position not used) refl
   where
     by : (o : Option ℕ) → position not used ≡ o → IsSome (position not used)
     by (Some slot) found = ap is_some found
     by None none =
-        let many : 2048 ≤ length (slots requirements) =
-        le-length_from_below (slots requirements) 2048 (λ q below.
+        let many : REQUIREMENTS ≤ length (slots requirements) =
+        le-length_from_below (slots requirements) REQUIREMENTS (λ q below.
         list_any-from_Contains nat_eq_equiv q (slots requirements) (marks.only q (all_marked used q (omega (arith, marks.capacity, below)) none))) in
         absurd (omega (arith, many, few, length-map requirements (λ r. r.slot)))
 

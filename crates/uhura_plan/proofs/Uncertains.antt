@@ -1,21 +1,20 @@
 -- A plan with one more duration is sound.
-use Rattle.std.proofs.Common.{◌≡◌, ℕ, ◌≤◌, List, [], ◌∷◌, ◌++◌, length, Contains, None, Some, bytes_eq, All, IfSome, refl, sym, ap, subst, ◌∙◌, arith}
+use Rattle.std.proofs.Common.{◌≡◌, ℕ, List, [], ◌∷◌, ◌++◌, length, Contains, None, Some, bytes_eq, All, IfSome, refl, sym, ap, subst, ◌∙◌, arith}
 use Rattle.std.specs.Map.{values_of}
 use Rattle.std.specs.Cmp.Lexicographic.{nat_list_eq_equiv}
 use Rattle.indexmap.specs.IndexMap.{insert_entry}
 use Rattle.indexmap.specs.IndexSet.{insert_key}
 use Rattle.std.proofs.lemmas.List.{length_push, map_push}
-use Rattle.std.proofs.lemmas.List.Elements.{All-push, All-weaker}
+use Rattle.std.proofs.lemmas.List.Elements.{All-push}
 use Rattle.std.proofs.lemmas.Map.Keys.{IsDistinct-push}
-use Rattle.uhura_plan.specs.declared.key.EventRef.{EventRef}
-use Rattle.uhura_plan.specs.declared.key.EventRef.TheVariants.{Controllable, End}
+use Rattle.uhura_plan.specs.declared.key.EventRef.TheVariants.{Controllable}
 use Rattle.uhura_plan.specs.declared.uncertain.Uncertain.{Uncertain}
 use Rattle.uhura_plan.specs.declared.choice.Choice.{Choice}
 use Rattle.uhura_plan.specs.declared.requirement.Requirement.{Requirement}
 use Rattle.uhura_plan.specs.Lists.{Lists, end_names, uncertain_names}
 use Rattle.uhura_plan.specs.Find.{find_event}
 use Rattle.uhura_plan.specs.Limits.{IsRangeEnd, IsRate}
-use Rattle.uhura_plan.specs.Sound.{IsName, AreDistinct, IsEventAmong, HasDistinctNames, IsSoundUncertain, IsSoundRequirement, IsSound}
+use Rattle.uhura_plan.specs.Sound.{IsName, AreDistinct, HasDistinctNames, IsSoundUncertain, IsSound}
 use Rattle.uhura_plan.specs.Tables.{lists_of, HoldsPlan}
 use Rattle.uhura_plan.specs.Edits.{with_uncertain}
 use Rattle.uhura_plan.specs.Refusals.{uncertain_refusal}
@@ -23,12 +22,8 @@ use Rattle.uhura_plan.proofs.Positions.{none_passes, not_contained}
 use Rattle.uhura_plan.proofs.Insertions.{insert_key-new, values_added, keys_added}
 use Rattle.uhura_plan.proofs.Events.{IsNoEvent, no_event}
 use Rattle.uhura_plan.proofs.Finds.{event_among}
+use Rattle.uhura_plan.proofs.More.{stay_sound}
 use Rattle.uhura_plan.proofs.Refusals.{IsUnrefusedUncertain, unrefused_uncertain}
-
--- an event stays an event where there are more durations
-more_ends : (events fewer more : ℕ) (event : EventRef) → fewer ≤ more → IsEventAmong events fewer event → IsEventAmong events more event
-more_ends events fewer more (Controllable e) le among = among
-more_ends events fewer more (End d) le among = omega (arith, le, among)
 
 -- the names and numbers of the duration that a call states are within their limits
 pub record IsWithinLimits (made : Uncertain) : Type 0 where
@@ -71,20 +66,6 @@ module _ (plan : Lists) (start : List ℕ) (made : Uncertain) (sound : IsSound p
     slots = sound.distinct.slots;
   }
 
-  -- a requirement stays sound
-  IsSoundRequirement-more_ends : (requirement : Requirement) → IsSoundRequirement plan requirement → IsSoundRequirement (with_uncertain plan made) requirement
-  IsSoundRequirement-more_ends requirement old = record {
-    name = old.name;
-    slot = old.slot;
-    from = more_ends _ _ _ requirement.from (omega (arith, length_push plan.uncertains made)) old.from;
-    to = more_ends _ _ _ requirement.to (omega (arith, length_push plan.uncertains made)) old.to;
-    two_events = old.two_events;
-    lower = old.lower;
-    upper = old.upper;
-    ordered = old.ordered;
-    guard = old.guard;
-  }
-
   module _ (within : IsWithinLimits made) where
     -- the duration made is sound
     IsSoundUncertain-made : IsSoundUncertain (length plan.events) made
@@ -113,7 +94,9 @@ module _ (plan : Lists) (start : List ℕ) (made : Uncertain) (sound : IsSound p
       events = sound.events;
       uncertains = All-push (IsSoundUncertain (length plan.events)) plan.uncertains made sound.uncertains IsSoundUncertain-made;
       choices = sound.choices;
-      requirements = All-weaker _ _ IsSoundRequirement-more_ends plan.requirements sound.requirements;
+      requirements =
+          stay_sound plan (with_uncertain plan made) (record { events = omega arith; uncertains = omega (arith, length_push plan.uncertains made); literals = λ _ among. among })
+          plan.requirements sound.requirements;
     }
 
 module _ (events ends : List (List ℕ)) (entries : List (List ℕ × Uncertain)) (choices : List (List ℕ × Choice)) (requirements : List (List ℕ × Requirement)) (plan : Lists)

@@ -42,11 +42,12 @@ requirement_in plan slot = find (λ r. r.slot == slot) plan.requirements
 -- the literal that the names of a choice and of one of its alternatives spell
 abbrev pub literal_named : Lists → List ℕ × List ℕ → Option Literal
 literal_named plan names =
+    let named = λ (c : ℕ). alternative_named plan c names.1 in
     option_and_then
-    (λ c.
-    option_map (λ a. record { choice = c; alternative = a }) (alternative_named plan c names.1))
+    (λ c. option_map (λ a. record { choice = c; alternative = a }) (named c))
     (choice_named plan names.0)
 
 -- the requirement of this name
 abbrev pub requirement_of : Lists → List ℕ → Option Requirement
-requirement_of plan name = find (λ r. bytes_eq name r.name) plan.requirements
+requirement_of plan name =
+    option_and_then (λ place. slice_get plan.requirements place) (requirement_named plan name)

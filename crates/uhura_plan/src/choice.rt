@@ -1,7 +1,6 @@
 //! A discrete choice among named alternatives.
-ghost use Rattle.std.specs.Prelude.{◌≡◌, ◌≤◌, length, map, position, is_some, bytes_eq, All, IfOk, OnOk};
+ghost use Rattle.std.specs.Prelude.{◌≡◌, map, position, IsSome, bytes_eq, All, IfOk, OnOk};
 ghost use Rattle.uhura_plan.specs.Changes.{costs_with};
-ghost use Rattle.uhura_plan.specs.declared.limits.TheConstants.{ALTERNATIVES};
 ghost use Rattle.uhura_plan.specs.Find.{place_of};
 ghost use Rattle.uhura_plan.specs.Sound.{IsName, AreDistinct};
 
@@ -54,19 +53,21 @@ impl Alternatives {
         self.pairs.as_slice()
     }
 
-    /// Sets the cost of the alternative of this name, and says whether it is there.
-    pub(crate) fn set_cost(&mut self, name: Name, cost: u32) -> bool
-        requires { AreDistinct (map (λ a. a.0) self.old) }
-        ensures found { result ≡ is_some (place_of (map (λ a. a.0) self.old) name) }
-        ensures costs { self.new ≡ costs_with name cost self.old }
+    /// The place of the alternative of this name.
+    pub(crate) fn find(&self, name: Name) -> Option<usize>
+        ensures { result ≡ place_of (map (λ a. a.0) self.now) name }
     {
-        match pair_named(self.pairs.as_slice(), name) {
-            Some(place) => {
-                self.pairs[place].1 = cost;
-                true
-            }
-            None => false,
-        }
+        pair_named(self.pairs.as_slice(), name)
+    }
+
+    /// Sets the cost of the alternative of this name, which is there.
+    pub(crate) fn set_cost(&mut self, name: Name, cost: u32)
+        requires there { IsSome (place_of (map (λ a. a.0) self.old) name) }
+        requires once { AreDistinct (map (λ a. a.0) self.old) }
+        ensures { self.new ≡ costs_with name cost self.old }
+    {
+        let place = self.find(name).unwrap();
+        self.pairs[place].1 = cost;
     }
 }
 
@@ -77,37 +78,10 @@ fn pair_named(pairs: &[(Name, u32)], name: Name) -> Option<usize>
     pairs.iter().position(|pair| name == pair.0)
 }
 
-/// The place of the alternative of this name.
-pub(crate) fn alternative_place(alternatives: &[(Name, u32)], name: Name) -> Option<u32>
-    requires { length alternatives.now ≤ ALTERNATIVES }
-    ensures { result ≡ place_of (map (λ a. a.0) alternatives.now) name }
-{
-    match pair_named(alternatives, name) {
-        Some(place) => Some(place as u32),
-        None => None,
-    }
-}
-
 /// A choice: it is made where its guard holds, and its guard names earlier choices alone.
 #[derive(Clone, Drop)]
 pub struct Choice {
     pub name: Name,
     pub alternatives: Alternatives,
     pub guard: Guard,
-}
-
-#[cfg(test)]
-mod tests {
-    use super::*;
-    use std::test::Fail;
-
-    #[test]
-    fn keeps_the_alternatives(rt: HostRuntime) -> Result<(), Fail> {
-        let name = Name::read(b"cinema".as_slice())?;
-        let mut pairs = Vec::new(rt.alloc());
-        pairs.push((name, 30))?;
-        let alternatives = Alternatives::from_vec(pairs);
-        assert_eq!(rt; alternatives.as_slice(), [(name, 30)].as_slice());
-        Ok(())
-    }
 }

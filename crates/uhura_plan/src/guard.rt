@@ -76,25 +76,3 @@ impl Guard {
         self.len += 1;
     }
 }
-
-#[cfg(test)]
-mod tests {
-    use super::*;
-
-    #[test]
-    fn keeps_literals_in_order(rt: HostRuntime) {
-        let first = Literal {
-            choice: 3,
-            alternative: 1,
-        };
-        let second = Literal {
-            choice: 0,
-            alternative: 2,
-        };
-        let mut guard = Guard::empty();
-        assert!(rt; guard.literals().is_empty());
-        guard.add(first);
-        guard.add(second);
-        assert_eq!(rt; guard.literals(), [first, second].as_slice());
-    }
-}

@@ -139,26 +139,3 @@ impl Hash for Name {
         self.bytes().hash(state);
     }
 }
-
-#[cfg(test)]
-mod tests {
-    use super::*;
-
-    #[test]
-    fn reads_names(rt: HostRuntime) {
-        let longest = "abcdefghijklmnopqrstuvwxyz_01234";
-        for word in ["a", "Z", "a_9", "e0", "lowers", "Upper", longest] {
-            assert!(rt; Name::read(word.as_bytes()).is_ok(), "{word} is a name");
-        }
-        let too_long = "abcdefghijklmnopqrstuvwxyz_012345";
-        for word in ["", "0a", "_a", "a-b", "lower", "upper", "when", too_long] {
-            assert!(rt; Name::read(word.as_bytes()).is_err(), "{word} is no name");
-        }
-    }
-
-    #[test]
-    fn gives_bytes_back(rt: HostRuntime) {
-        let name = Name::read(b"start_1".as_slice()).expect(&rt, "a name");
-        assert_eq!(rt; name.bytes(), b"start_1".as_slice());
-    }
-}

@@ -53,6 +53,3 @@ impl Plan {
         })
     }
 }
-
-#[cfg(test)]
-mod tests;

@@ -122,7 +122,8 @@ impl Plan {
     ) -> Result<(), EditRefusal>
         requires lower { AreWithinLimits lower }
         requires upper { AreWithinLimits upper }
-        ensures answer { Answers (requirement_refusal self.old name from to lower upper guard.now) result }
+        ensures answer { Answers
+            (requirement_refusal self.old name from to lower upper guard.now) result }
         ensures ok { OnOk result (AddsRequirement self.old self.new (record {
           name = name;
           from = from;

@@ -15,9 +15,10 @@ impl Plan {
         ensures ok { OnOk result (self.new ≡ without_requirement name self.old) }
         ensures err { OnErr result (self.new ≡ self.old) }
     {
-        if self.requirements.shift_remove(&name).is_none() {
+        let Some(place) = self.requirements.get_index_of(&name) else {
             return Err(EditRefusal::Unknown { which: 0 });
-        }
+        };
+        self.requirements.shift_remove_index(place);
         Ok(())
     }
 
@@ -30,17 +31,18 @@ impl Plan {
     ) -> Result<(), EditRefusal>
         requires { IfSome bound IsBound }
         ensures answer { AnswersAlways (bound_refusal self.old name side bound) result }
-        ensures ok { OnOk result (self.new ≡ change_requirement (with_bound side bound) name self.old) }
+        ensures ok { OnOk result (
+            self.new ≡ change_requirement (with_bound side bound) name self.old) }
         ensures err { OnErr result (self.new ≡ self.old) }
     {
-        let Some(requirement) = self.requirements.get_mut(&name) else {
+        let Some(place) = self.requirements.get_index_of(&name) else {
             return Err(EditRefusal::Unknown { which: 0 });
         };
-        let (lower, upper) = requirement.bounds_with(side, bound);
+        let (lower, upper) = self.requirements[place].bounds_with(side, bound);
         if let Some(refusal) = empty_between(lower, upper) {
             return Err(refusal);
         }
-        requirement.set_bound(side, bound);
+        self.requirements[place].set_bound(side, bound);
         Ok(())
     }
 
@@ -53,13 +55,14 @@ impl Plan {
     ) -> Result<(), EditRefusal>
         requires { IfSome price IsPrice }
         ensures answer { AnswersAlways (no_requirement self.old name) result }
-        ensures ok { OnOk result (self.new ≡ change_requirement (with_price side price) name self.old) }
+        ensures ok { OnOk result (
+            self.new ≡ change_requirement (with_price side price) name self.old) }
         ensures err { OnErr result (self.new ≡ self.old) }
     {
-        let Some(requirement) = self.requirements.get_mut(&name) else {
+        let Some(place) = self.requirements.get_index_of(&name) else {
             return Err(EditRefusal::Unknown { which: 0 });
         };
-        requirement.set_price(side, price);
+        self.requirements[place].set_price(side, price);
         Ok(())
     }
 
@@ -75,10 +78,10 @@ impl Plan {
         ensures ok { OnOk result (self.new ≡ change_uncertain (with_rate side rate) name self.old) }
         ensures err { OnErr result (self.new ≡ self.old) }
     {
-        let Some(uncertain) = self.uncertains.get_mut(&name) else {
+        let Some(place) = self.uncertains.get_index_of(&name) else {
             return Err(EditRefusal::Unknown { which: 0 });
         };
-        uncertain.set_rate(side, rate);
+        self.uncertains[place].set_rate(side, rate);
         Ok(())
     }
 
@@ -87,16 +90,17 @@ impl Plan {
         requires lower { IsRangeEnd lower }
         requires upper { IsRangeEnd upper }
         ensures answer { AnswersAlways (range_refusal self.old name lower upper) result }
-        ensures ok { OnOk result (self.new ≡ change_uncertain (with_range lower upper) name self.old) }
+        ensures ok { OnOk result (
+            self.new ≡ change_uncertain (with_range lower upper) name self.old) }
         ensures err { OnErr result (self.new ≡ self.old) }
     {
-        let Some(uncertain) = self.uncertains.get_mut(&name) else {
+        let Some(place) = self.uncertains.get_index_of(&name) else {
             return Err(EditRefusal::Unknown { which: 0 });
         };
         if let Some(refusal) = empty_between(Some(lower), Some(upper)) {
             return Err(refusal);
         }
-        uncertain.set_range(lower, upper);
+        self.uncertains[place].set_range(lower, upper);
         Ok(())
     }
 
@@ -109,15 +113,17 @@ impl Plan {
     ) -> Result<(), EditRefusal>
         requires { IsAmount cost }
         ensures answer { AnswersAlways (preference_refusal self.old choice alternative) result }
-        ensures ok { OnOk result (self.new ≡ change_choice (with_cost alternative cost) choice self.old) }
+        ensures ok { OnOk result (
+            self.new ≡ change_choice (with_cost alternative cost) choice self.old) }
         ensures err { OnErr result (self.new ≡ self.old) }
     {
-        let Some(found) = self.choices.get_mut(&choice) else {
+        let Some(place) = self.choices.get_index_of(&choice) else {
             return Err(EditRefusal::Unknown { which: 0 });
         };
-        if !found.alternatives.set_cost(alternative, cost) {
+        if self.choices[place].alternatives.find(alternative).is_none() {
             return Err(EditRefusal::Unknown { which: 1 });
         }
+        self.choices[place].alternatives.set_cost(alternative, cost);
         Ok(())
     }
 }

@@ -4,7 +4,6 @@ ghost use Rattle.uhura_plan.specs.Find.{find_event, uncertain_named, choice_name
 ghost use Rattle.uhura_plan.specs.Sound.{IsSound};
 
 use super::Plan;
-use crate::choice::alternative_place;
 use crate::{Choice, EventRef, Name, Requirement, Uncertain};
 
 impl Plan {
@@ -87,10 +86,8 @@ impl Plan {
     pub fn find_alternative(&self, choice: u32, name: Name) -> Option<u32>
         ensures { result ≡ alternative_named self.now choice name }
     {
-        match self.choice(choice) {
-            Some(found) => alternative_place(found.alternatives.as_slice(), name),
-            None => None,
-        }
+        let place = self.choice(choice)?.alternatives.find(name)?;
+        Some(place as u32)
     }
 
     /// The number of requirements.
