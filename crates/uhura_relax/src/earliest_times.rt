@@ -16,9 +16,10 @@ use uhura_worst::Loosening;
 /// The schedule in which each controllable event comes as early as it can, from 0 on, with the requirements of the
 /// branch met for all lengths that are left to the durations, each side loosened or narrowed by its units. Times are
 /// in the plan's units, one for each controllable event. `Broken` gives the places of a closed walk of loosened edges
-/// whose bounds sum below 0, and no times at all meet the requirements then. `Memory` says nothing. Memory is taken at
-/// the start and for the answer; the work is at most nodes times edges. The method is that of R. Dechter, I. Meiri and
-/// J. Pearl, Temporal constraint networks (1991), with the shortest paths of R. Bellman (1958) and L. R. Ford (1956).
+/// whose bounds sum below 0, and no times at all meet the requirements then. `Memory` says nothing. Memory is taken
+/// at the start and for the answer; the work is at most nodes times edges. The method is that of R. Dechter, I. Meiri
+/// and J. Pearl, Temporal constraint networks (1991), with the shortest paths of R. Bellman (1958) and L. R. Ford
+/// (1956).
 pub fn earliest(
     alloc: Global,
     plan: &Plan,

@@ -29,7 +29,8 @@ pub fn room(plan: &Plan, vetoes: &Vetoes, key: SideKey) -> Room
 /// the caps on it.
 pub fn requirement_room(vetoes: &Vetoes, side: Side, requirement: &Requirement) -> Room
     ensures room { result ≡ requirement_room vetoes.now side requirement.now }
-    ensures small { AreWithinLimits requirement.now.lower → AreWithinLimits requirement.now.upper → IsSoundRoom result }
+    ensures small { AreWithinLimits requirement.now.lower →
+        AreWithinLimits requirement.now.upper → IsSoundRoom result }
 {
     let bounded = requirement.bounded(side);
     let key = SideKey {

@@ -1,6 +1,6 @@
 -- What is allowed in a state is allowed, with the same cost, in one that is the same but for the slots of requirements.
-use Rattle.std.proofs.Common.{rules, ◌≡◌, ◌≢◌, ℕ, zero, suc, ◌+◌, ◌<◌, ◌≤◌, Bool, true, false, List, [], ◌∷◌, length, Option, None, Some, IfSome, IsFalse, slice_get, Contains, AllPairs, refl, sym, ap, subst, ◌∙◌, arith, inl, inr}
-use Rattle.std.specs.Prelude.{if◌then◌else◌, nat_eq, map, sum_by, option_map, ℤ, pos, ◌-ℤ◌, ◌+ℤ◌, ◌*ℤ◌, ◌≤ℤ◌}
+use Rattle.std.proofs.Common.{◌≡◌, ◌≢◌, ℕ, zero, suc, ◌+◌, ◌<◌, Bool, List, [], ◌∷◌, length, Option, None, Some, IfSome, slice_get, Contains, AllPairs, refl, sym, ap, subst, ◌∙◌, arith, inl, inr}
+use Rattle.std.specs.Prelude.{if◌then◌else◌, nat_eq, sum_by, option_map, ℤ, pos, ◌-ℤ◌, ◌+ℤ◌, ◌*ℤ◌, ◌≤ℤ◌}
 use Rattle.std.proofs.lemmas.Bool.Decides.{Decides-eqb, eqb_tells}
 use Rattle.std.proofs.lemmas.List.{length-map}
 use Rattle.std.proofs.lemmas.List.Sums.{sum_by-cons}
@@ -9,22 +9,19 @@ use Rattle.uhura_plan.specs.declared.key.Side.{Side}
 use Rattle.uhura_plan.specs.declared.key.Side.TheVariants.{Lower, Upper}
 use Rattle.uhura_plan.specs.declared.key.Item.{Item}
 use Rattle.uhura_plan.specs.declared.key.Item.TheVariants as item
-use Rattle.uhura_plan.specs.declared.key.SideKey.{SideKey}
 use Rattle.uhura_plan.specs.declared.choice.Choice.{Choice}
 use Rattle.uhura_plan.specs.declared.requirement.Requirement.{Requirement}
 use Rattle.uhura_plan.specs.declared.uncertain.Uncertain.{Uncertain}
-use Rattle.uhura_plan.specs.Lists.{Lists, slots}
-use Rattle.uhura_plan.specs.Sides.{bounded_of, loosening_rate, rate_of}
+use Rattle.uhura_plan.specs.Lists.{slots}
+use Rattle.uhura_plan.specs.Sides.{loosening_rate, rate_of}
 use Rattle.uhura_plan.specs.Sound.{IsSound}
-use Rattle.uhura_choice.specs.Branch.{holds, IsBranch, picked_cost}
 use Rattle.uhura_veto.specs.declared.veto.Veto.{Veto}
 use Rattle.uhura_veto.specs.State.{State}
-use Rattle.uhura_veto.specs.Denial.{is_denied}
-use Rattle.uhura_veto.specs.Room.{requirement_room, duration_room, room_to_loosen, room_to_narrow, width_of, IsWithinRoom}
-use Rattle.uhura_worst.specs.Proposal.{Proposal, loosened, narrowed, least_left, greatest_left, time_of, IsWithin}
+use Rattle.uhura_veto.specs.Room.{requirement_room, room_to_loosen, room_to_narrow, width_of, IsWithinRoom}
+use Rattle.uhura_worst.specs.Proposal.{Proposal, narrowed, time_of, IsWithin}
 use Rattle.uhura_worst.specs.Allowed.{Allowed}
 use Rattle.uhura_worst.specs.Cost.{price_of, loosening_cost, narrowing_cost, narrowings_cost, cost}
-use Rattle.uhura_worst.specs.Slots.{in_slot, loosening_caps, narrowing_caps, IsSameButForSlots}
+use Rattle.uhura_worst.specs.Slots.{in_slot, loosening_caps, IsSameButForSlots}
 use Rattle.uhura_worst.proofs.SoundItems.{Contains-at}
 use Rattle.uhura_worst.proofs.FirstItems.{slot_at}
 
@@ -75,12 +72,14 @@ twin b rs vetoes sound same place s there = by (slice_get rs place) refl
     by : (o : Option Requirement) → slice_get rs place ≡ o → option_map (in_slot 0) o ≡ Some (in_slot 0 s) → (slot : ℕ) × IsTwin b rs vetoes place s slot
     by None is mapped = absurd (let never : ⊥ = cc in never)
     by (Some r) is mapped =
-        let own : r ≡ in_slot r.slot s = ap (in_slot r.slot) (same_Some (in_slot 0 r) (in_slot 0 s) mapped) in
-        (r.slot, record {
-          here = is ∙ ap (λ (q : Requirement). Some q) own;
-          other = other_slot-at rs b.plan.requirements place r s sound.distinct.slots is there;
-          caps = λ side. ap (loosening_caps vetoes side) (sym own) ∙ same.loosening side place r s is there;
-        })
+        let own : r ≡ in_slot r.slot s = ap (in_slot r.slot) (same_Some (in_slot 0 r) (in_slot 0 s) mapped) in (
+          r.slot,
+          record {
+            here = is ∙ ap (λ (q : Requirement). Some q) own;
+            other = other_slot-at rs b.plan.requirements place r s sound.distinct.slots is there;
+            caps = λ side. ap (loosening_caps vetoes side) (sym own) ∙ same.loosening side place r s is there;
+          },
+        )
 
 twin_of : (b : State) (rs : List Requirement) (vetoes : List Veto) → IsSound b.plan → IsSameButForSlots (alike b rs vetoes) b →
     (s : Requirement) → Contains b.plan.requirements s → (place : ℕ) × (slot : ℕ) × IsTwin b rs vetoes place s slot
@@ -186,11 +185,14 @@ same_worth a b k q sound same allowed =
     ∙ ap (λ (u : List Uncertain). of b.plan.events u a.plan.choices) same.uncertains
     ∙ ap (λ (c : List Choice). of b.plan.events b.plan.uncertains c) same.choices in
     subst (λ (x : State). IsSameButForSlots x b → Allowed x k q → (m : Proposal) × IsWorth x b k q m) (sym is)
-    (λ like kept. (moved a.plan.requirements b.plan.requirements q, record {
-      allowed = moved-allowed b a.plan.requirements a.vetoes k q sound like kept;
-      branch = refl;
-      cost = moved-cost b a.plan.requirements a.vetoes k q sound like;
-    })) same allowed
+    (λ like kept. (
+      moved a.plan.requirements b.plan.requirements q,
+      record {
+        allowed = moved-allowed b a.plan.requirements a.vetoes k q sound like kept;
+        branch = refl;
+        cost = moved-cost b a.plan.requirements a.vetoes k q sound like;
+      },
+    )) same allowed
 
 -- the other way
 pub IsSameButForSlots-back : (a b : State) → IsSameButForSlots a b → IsSameButForSlots b a

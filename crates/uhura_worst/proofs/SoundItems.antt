@@ -1,5 +1,5 @@
 -- The items of a sound plan are sound, and have the nodes and bounds that their edges ask for.
-use Rattle.std.proofs.Common.{◌≡◌, ℕ, ◌<◌, Bool, List, length, Option, None, Some, IfSome, slice_get, Contains, subst, arith}
+use Rattle.std.proofs.Common.{◌≡◌, ℕ, Bool, List, length, Option, None, Some, IfSome, slice_get, Contains, subst, arith}
 use Rattle.std.specs.Prelude.{find, option_map}
 use Rattle.std.proofs.lemmas.List.Folds.{find_at}
 use Rattle.std.specs.List.{position_or_len}

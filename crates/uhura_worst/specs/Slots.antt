@@ -15,7 +15,8 @@ in_slot slot r = record r { slot = slot }
 
 -- the caps on a side of a requirement, and on one of the duration in place d
 abbrev pub loosening_caps : List Veto → Side → Requirement → List ℕ
-loosening_caps vetoes side r = caps_on (record { item = item.Requirement r.slot; side = side }) vetoes
+loosening_caps vetoes side r =
+    caps_on (record { item = item.Requirement r.slot; side = side }) vetoes
 
 abbrev pub narrowing_caps : List Veto → Side → ℕ → List ℕ
 narrowing_caps vetoes side d = caps_on (record { item = item.Uncertain d; side = side }) vetoes

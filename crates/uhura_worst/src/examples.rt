@@ -103,29 +103,39 @@ pub fn longest_drive_decides()
 
 /// The tables of a drive and of a dinner that may come later at a price without limit.
 pub fn tables_are_read()
-    ensures dinner_loose { edge_of evening_drive (Loose (requirement_side 0 Upper)) ≡ Some (edge 0 513 (pos 40) 2) }
+    ensures dinner_loose { edge_of evening_drive (Loose (requirement_side 0 Upper))
+        ≡ Some (edge 0 513 (pos 40) 2) }
     ensures dinner_firm { edge_of evening_drive (Firm (requirement_side 0 Upper)) ≡ None }
     ensures no_bound { edge_of evening_drive (Firm (requirement_side 0 Lower)) ≡ None }
     ensures no_price { edge_of evening_drive (Loose (duration_side 0 Lower)) ≡ None }
-    ensures shortest { edge_of evening_drive (Firm (duration_side 0 Lower)) ≡ Some (firm 0 512 (pos 30)) }
-    ensures longest { edge_of evening_drive (Loose (duration_side 0 Upper)) ≡ Some (edge 513 0 (negsuc 49) 3) }
-    ensures narrowed { edge_of evening_drive (Firm (duration_side 0 Upper)) ≡ Some (firm 513 0 (negsuc 29)) }
+    ensures shortest { edge_of evening_drive (Firm (duration_side 0 Lower))
+        ≡ Some (firm 0 512 (pos 30)) }
+    ensures longest { edge_of evening_drive (Loose (duration_side 0 Upper))
+        ≡ Some (edge 513 0 (negsuc 49) 3) }
+    ensures narrowed { edge_of evening_drive (Firm (duration_side 0 Upper))
+        ≡ Some (firm 513 0 (negsuc 29)) }
     ensures order { edge_of evening_drive (Order 0) ≡ Some (firm 513 512 (pos 0)) }
-    ensures early { edge_of (drives_apart 40) (Firm (requirement_side 0 Lower)) ≡ Some (firm 514 513 (negsuc 9)) }
-    ensures late { edge_of (drives_apart 40) (Firm (requirement_side 0 Upper)) ≡ Some (firm 512 515 (pos 40)) }
+    ensures early { edge_of (drives_apart 40) (Firm (requirement_side 0 Lower))
+        ≡ Some (firm 514 513 (negsuc 9)) }
+    ensures late { edge_of (drives_apart 40) (Firm (requirement_side 0 Upper))
+        ≡ Some (firm 512 515 (pos 40)) }
 {}
 
 /// A side with a second price has a steep edge besides: between the nodes of its loose edge, with the bound moved by
 /// the units that the first price covers, and what the second is above the first for its capacity.
 pub fn steep_edges_are_read()
     ensures one_price { edge_of evening_drive (Steep (requirement_side 0 Upper)) ≡ None }
-    ensures loose { edge_of rising_evening (Loose (requirement_side 0 Upper)) ≡ Some (edge 0 513 (pos 40) 2) }
-    ensures later { edge_of rising_evening (Steep (requirement_side 0 Upper)) ≡ Some (edge 0 513 (pos 44) 3) }
-    ensures shorter { edge_of rising_cut (Steep (duration_side 0 Upper)) ≡ Some (edge 513 0 (negsuc 14) 3) }
+    ensures loose { edge_of rising_evening (Loose (requirement_side 0 Upper))
+        ≡ Some (edge 0 513 (pos 40) 2) }
+    ensures later { edge_of rising_evening (Steep (requirement_side 0 Upper))
+        ≡ Some (edge 0 513 (pos 44) 3) }
+    ensures shorter { edge_of rising_cut (Steep (duration_side 0 Upper))
+        ≡ Some (edge 513 0 (negsuc 14) 3) }
     ensures no_second { edge_of rising_cut (Steep (requirement_side 0 Upper)) ≡ None }
     ensures sooner { edge_of rising_from_below (Steep (requirement_side 0 Lower))
         ≡ Some (edge 512 0 (negsuc 12) 3) }
-    ensures longer { edge_of rising_from_below (Steep (duration_side 0 Lower)) ≡ Some (edge 0 512 (pos 15) 3) }
+    ensures longer { edge_of rising_from_below (Steep (duration_side 0 Lower))
+        ≡ Some (edge 0 512 (pos 15) 3) }
 {}
 
 /// A choice is inactive exactly where its guard isn't picked. It then costs nothing, none of its alternatives may be
@@ -133,9 +143,11 @@ pub fn steep_edges_are_read()
 pub fn inactive_choice_is_free()
     ensures best { IsBest dining (dine (Alternative 0) Inactive) }
     ensures cost { cost dining.plan 1 (dine (Alternative 0) Inactive) ≡ 0 }
-    ensures picked { IsBranch dining.plan.choices (dine (Alternative 0) (Alternative 1)).branch → ⊥ }
+    ensures picked { IsBranch dining.plan.choices (dine (Alternative 0) (Alternative 1)).branch
+        → ⊥ }
     ensures skipped { IsBranch dining.plan.choices (dine (Alternative 1) Inactive).branch → ⊥ }
-    ensures unknown { IsBranch dining.plan.choices (dine (Alternative 1) (Alternative 2)).branch → ⊥ }
+    ensures unknown { IsBranch dining.plan.choices (dine (Alternative 1) (Alternative 2)).branch
+        → ⊥ }
     ensures denied { Allowed dining 1 (dine (Alternative 1) (Alternative 0)) → ⊥ }
     ensures not_denied { Allowed dining 1 (dine (Alternative 1) (Alternative 1)) }
 {}
@@ -148,9 +160,10 @@ pub fn both_ends_are_narrowed()
 
 /// A cap makes no room where a side has no price, and a room is the least of what limits it.
 pub fn room_is_least()
-    ensures unpriced { requirement_room (Cap (codes "v") (requirement_side 1 Upper) 5 ∷ []) Upper not_after
-        ≡ Units 0 }
+    ensures unpriced { requirement_room (Cap (codes "v") (requirement_side 1 Upper) 5 ∷ [])
+        Upper not_after ≡ Units 0 }
     ensures most { requirement_room [] Upper dinner_at_most ≡ Units 3 }
     ensures width { duration_room [] 0 Upper stretch ≡ Units 10 }
-    ensures capped { duration_room (Cap (codes "v") (duration_side 0 Upper) 7 ∷ []) 0 Upper stretch ≡ Units 7 }
+    ensures capped { duration_room (Cap (codes "v") (duration_side 0 Upper) 7 ∷ []) 0 Upper stretch
+        ≡ Units 7 }
 {}

@@ -96,7 +96,8 @@ fn put_requirement_edge<T: Tables>(
 )
     requires nodes { HasNodes requirement.now }
     requires placed { HasPlace key }
-    ensures { Puts key ((T.tables tables.now).of_requirement requirement.now key) table.old table.new }
+    ensures { let edge = (T.tables tables.now).of_requirement requirement.now key in
+        Puts key edge table.old table.new }
 {
     let edge = tables.requirement_edge(requirement, key);
     put(table, key, edge);
@@ -138,7 +139,8 @@ fn put_duration_edge<T: Tables>(
     requires place { IsPlacedItem (item.Uncertain duration) }
     requires sound { IsSoundUncertain FIRST_OF_ENDS uncertain.now }
     requires placed { HasPlace key }
-    ensures { Puts key ((T.tables tables.now).of_duration duration uncertain.now key) table.old table.new }
+    ensures { let edge = (T.tables tables.now).of_duration duration uncertain.now key in
+        Puts key edge table.old table.new }
 {
     let edge = tables.duration_edge(duration, uncertain, key);
     put(table, key, edge);
