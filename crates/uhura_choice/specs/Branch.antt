@@ -58,11 +58,13 @@ IsEarlier (Inactive ∷ xs) (Alternative b ∷ ys) = ⊥
 -- what an entry of a choice costs
 abbrev pub pick_cost : Choice → Pick → ℕ
 pick_cost c Inactive = 0
-pick_cost c (Alternative a) = unwrap_or (option_map (λ pair. pair.1) (slice_get c.alternatives a)) 0
+pick_cost c (Alternative a) =
+    unwrap_or (option_map (λ pair. pair.1) (slice_get c.alternatives a)) 0
 
 -- what the pick at this place costs: nothing where there is none, or no such choice
 abbrev pub cost_at : List Choice → List Pick → ℕ → ℕ
-cost_at choices picks place = option_map_or (λ c. option_map_or (pick_cost c) (slice_get picks place) 0) (slice_get choices place) 0
+cost_at choices picks place =
+    option_map_or (λ c. option_map_or (pick_cost c) (slice_get picks place) 0) (slice_get choices place) 0
 
 -- the costs of all picks together
 abbrev pub picked_cost : List Choice → List Pick → ℕ

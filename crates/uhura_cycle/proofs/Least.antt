@@ -1,18 +1,18 @@
 -- The least bound of the steps, taken one by one.
-use Rattle.std.proofs.Common.{ℕ, ◌+◌, ◌<◌, ℤ, pos, negsuc, ◌≤ℤ◌, ◌<ℤ◌, neg_ℤ, List, length, take, slice_index_or, arith}
-use Rattle.std.specs.List.{All}
+use Rattle.std.proofs.Common.{ℕ, ◌+◌, ◌<◌, ◌≤◌, ℤ, pos, negsuc, ◌≤ℤ◌, ◌<ℤ◌, neg_ℤ, List, length, take, slice_index_or, arith}
 use Rattle.std.proofs.lemmas.Int.{ints}
+use Rattle.std.proofs.lemmas.List.{take_all}
 use Rattle.std.proofs.lemmas.List.Elements.{All-more, All-weaker}
 use Rattle.uhura_cycle.specs.declared.step.Step.{Step}
-use Rattle.uhura_cycle.specs.Steps.{AreSoundSteps}
+use Rattle.uhura_cycle.specs.Steps.{AreSoundSteps, HaveBoundsFrom, IsLeastBound}
 
 -- no bound of the first steps is below the number, and every number that is below none of them and not above 0 is at
 -- most it
 pub record IsLeastSoFar (steps : List Step) (taken : ℕ) (least : ℤ) : Type 0 where
   pub fits : negsuc 19999999999999 ≤ℤ least
   pub most : least ≤ℤ pos 0
-  pub below : All (λ step. least ≤ℤ step.edge.bound) (take taken steps)
-  pub reached : (most : ℕ) → All (λ step. neg_ℤ (pos most) ≤ℤ step.edge.bound) steps → neg_ℤ (pos most) ≤ℤ least
+  pub below : HaveBoundsFrom least (take taken steps)
+  pub reached : (most : ℕ) → HaveBoundsFrom (neg_ℤ (pos most)) steps → neg_ℤ (pos most) ≤ℤ least
 
 -- a bound below the number takes its place
 pub IsLeastSoFar-lowered : (steps : List Step) (taken : ℕ) (d : Step) (least : ℤ) → taken < length steps → AreSoundSteps steps →
@@ -37,5 +37,14 @@ IsLeastSoFar-same steps taken d least more under so_far = record {
   fits = so_far.fits;
   most = so_far.most;
   below = All-more (λ (step : Step). least ≤ℤ step.edge.bound) steps taken d more so_far.below under;
+  reached = so_far.reached;
+}
+
+-- after all steps
+pub IsLeastBound-done : (steps : List Step) (taken : ℕ) (least : ℤ) → length steps ≤ taken → IsLeastSoFar steps taken least → IsLeastBound steps least
+IsLeastBound-done steps taken least all so_far = record {
+  fits = so_far.fits;
+  most = so_far.most;
+  below = rw (take_all taken steps all) at so_far.below;
   reached = so_far.reached;
 }

@@ -8,7 +8,7 @@ use Rattle.std.proofs.lemmas.List.Sums.{sum_by-set, get_or-le-sum_by}
 use Rattle.uhura_net.specs.declared.edge.TheConstants.{NODES}
 use Rattle.uhura_net.specs.declared.place.Place.{Place}
 use Rattle.uhura_cycle.specs.declared.step.Step.{Step}
-use Rattle.uhura_cycle.specs.Descent.{back_of}
+use Rattle.uhura_cycle.specs.Steps.{back_of}
 use Rattle.uhura_cycle.specs.Trail.{IsTrail, IsLoop, IsTrace}
 
 -- where a trace came by a node

@@ -3,7 +3,7 @@ use Rattle.std.specs.Prelude.{ℕ, ◌<◌, ◌≤◌, ◌≡◌, List, [], ◌�
 use Rattle.uhura_net.specs.declared.edge.TheConstants.{NODES}
 use Rattle.uhura_net.specs.declared.place.Place.{Place}
 use Rattle.uhura_cycle.specs.declared.step.Step.{Step}
-use Rattle.uhura_cycle.specs.Descent.{back_of}
+use Rattle.uhura_cycle.specs.Steps.{back_of}
 
 -- the node was lowered last by the step with this place and start
 pub record IsBack (backs : List (Option Step)) (from : ℕ) (place : Place) (node : ℕ) : Type 0 where
@@ -15,7 +15,8 @@ pub record IsBack (backs : List (Option Step)) (from : ℕ) (place : Place) (nod
 -- the places lead from one node to another by such steps
 abbrev pub IsTrail : List (Option Step) → ℕ → List Place → ℕ → Type 0
 IsTrail backs from [] to = from ≡ to
-IsTrail backs from (place ∷ places) to = (node : ℕ) × IsBack backs from place node × IsTrail backs node places to
+IsTrail backs from (place ∷ places) to =
+    (node : ℕ) × IsBack backs from place node × IsTrail backs node places to
 
 -- a node that no step lowered, from which fewer steps than there are nodes lead to the given one
 pub record IsFromRest (backs : List (Option Step)) (to : ℕ) : Type 0 where

@@ -1,9 +1,8 @@
 //! The edges that are followed.
-ghost use Rattle.std.specs.Prelude.{◌≡◌, ◌<◌, ◌≤◌, ◌≤ℤ◌, ℕ, pos, negsuc, neg_ℤ, length, take, IfSome};
-ghost use Rattle.std.specs.List.{All};
+ghost use Rattle.std.specs.Prelude.{◌≡◌, ◌<◌, ◌≤◌, length, take, IfSome};
 ghost use Rattle.uhura_net.specs.Table.{IsEdgeFor};
 ghost use Rattle.uhura_net.specs.Edges.{chosen_edges};
-ghost use Rattle.uhura_cycle.specs.Steps.{AreStepsOf, AreSoundSteps};
+ghost use Rattle.uhura_cycle.specs.Steps.{AreStepsOf, AreSoundSteps, IsLeastBound};
 
 use crate::step::Step;
 use uhura_net::{Edge, EdgeTable, PLACES, Place};
@@ -29,7 +28,7 @@ pub(crate) fn gather(table: &EdgeTable, chosen: &[bool], steps: &mut [Step]) -> 
     count
 }
 
-// The edge at a place, where there is one and the place is chosen.
+/// The edge at a place, where there is one and the place is chosen.
 fn chosen_edge(table: &EdgeTable, chosen: &[bool], number: u32) -> Option<Edge>
     requires number { number < PLACES }
     requires chosen { length chosen.now ≡ PLACES }
@@ -46,10 +45,7 @@ fn chosen_edge(table: &EdgeTable, chosen: &[bool], number: u32) -> Option<Edge>
 /// The least bound, or 0 where none is below 0.
 pub(crate) fn least_bound(steps: &[Step]) -> i64
     requires { AreSoundSteps steps.now }
-    ensures least { negsuc 19999999999999 ≤ℤ result }
-    ensures most { result ≤ℤ pos 0 }
-    ensures below { All (λ step. result ≤ℤ step.edge.bound) steps.now }
-    ensures reached { (most : ℕ) → All (λ step. neg_ℤ (pos most) ≤ℤ step.edge.bound) steps.now → neg_ℤ (pos most) ≤ℤ result }
+    ensures { IsLeastBound steps.now result }
 {
     let mut least = 0;
     for step in steps {

@@ -1,4 +1,4 @@
-//! Difference constraints: times that meet chosen edges, or a closed walk of them whose bounds sum below 0, by the
+//! Difference constraints: times that keep chosen edges, or a closed walk of them whose bounds sum below 0, by the
 //! method of Bellman and Ford. All times start at 0; pass after pass follows each edge and lowers the time of its end
 //! where the edge wants it lower. Each node keeps the edge that lowered it last. Where these edges lead back from a
 //! node to itself they are the closed walk. `specs/Verdict.antt` says what is found, `specs/Descent.antt` and
@@ -6,9 +6,9 @@
 #![tactic(auto)]
 
 mod descending;
+mod following;
 mod gathering;
 mod lining;
-mod relaxing;
 mod scratch;
 mod settling;
 mod step;

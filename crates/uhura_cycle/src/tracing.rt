@@ -6,8 +6,8 @@ ghost use Rattle.uhura_cycle.specs.Trail.{IsTrace};
 use crate::step::Step;
 use uhura_net::{NODES, Place};
 
-/// Goes back from `start` until it comes by a node again, or to one that no step lowered. The places stand in `walk` from
-/// its end on backward, so that they are in the order of the walk; the part that is given is the closed one.
+/// Goes back from `start` until it comes by a node again, or to one that no step lowered. The places stand in `walk`
+/// from its end on backward, so that they are in the order of the walk; the part that is given is the closed one.
 pub(crate) fn trace(
     backs: &[Option<Step>],
     start: u32,

@@ -4,6 +4,7 @@ use Rattle.std.specs.List.{AllByRecursion}
 use Rattle.std.proofs.lemmas.Slice.Eq.{bytes_eq-Decides}
 use Rattle.uhura_line.specs.Form.{Word, pair_words, guard_words}
 use Rattle.uhura_line.specs.Reader.{alternatives_of, is_no_alternative}
+use Rattle.uhura_line.proofs.OneSpelling.{other_word}
 use Rattle.uhura_line.proofs.Parts.{some_is}
 
 -- the words of a guard end the alternatives
@@ -11,17 +12,11 @@ guard_ends : (g : List (Word × Word)) → alternatives_of (guard_words g) ≡ S
 guard_ends [] = refl
 guard_ends (pair ∷ pairs) = refl
 
-not_when : (w : Word) → w ≢ codes "when" → bytes_eq w (codes "when") ≡ false
-not_when w other = by_test (bytes_eq w (codes "when")) refl
-  where
-    by_test : (t : Bool) → bytes_eq w (codes "when") ≡ t → bytes_eq w (codes "when") ≡ false
-    by_test true e = absurd (other ((bytes_eq-Decides w (codes "when")).0 e))
-    by_test false e = e
-
-pub alternatives_found : (a g : List (Word × Word)) → AllByRecursion (λ word. word ≢ codes "when") (pair_words a) → alternatives_of (pair_words a ++ guard_words g) ≡ Some (a, guard_words g)
+pub alternatives_found : (a g : List (Word × Word)) → AllByRecursion (λ word. word ≢ codes "when") (pair_words a)
+    → alternatives_of (pair_words a ++ guard_words g) ≡ Some (a, guard_words g)
 alternatives_found [] g whenless = guard_ends g
 alternatives_found (pair ∷ a) g whenless =
-    rw (not_when pair.0 whenless.0, not_when pair.1 whenless.1.0) (ap (option_map (λ found. ((pair.0, pair.1) ∷ found.0, found.1))) (alternatives_found a g whenless.1.1))
+    rw (other_word pair.0 (codes "when") whenless.0, other_word pair.1 (codes "when") whenless.1.0) (ap (option_map (λ found. ((pair.0, pair.1) ∷ found.0, found.1))) (alternatives_found a g whenless.1.1))
 
 pub record AreWritten (words : List Word) (found : List (Word × Word) × List Word) : Type 0 where
   pub words_are : words ≡ pair_words found.0 ++ found.1
@@ -31,10 +26,13 @@ is_not : (w : Word) → bytes_eq w (codes "when") ≡ false → w ≢ codes "whe
 is_not w other same = true≢false (sym ((bytes_eq-Decides w (codes "when")).1 same) ∙ other)
 
 -- no alternative stands before these words
-none_before : (words : List Word) (found : List (Word × Word) × List Word) → ◌≡◌ {A = Option (List (Word × Word) × List Word)} (Some ([], words)) (Some found) → AreWritten words found
+none_before : (words : List Word) (found : List (Word × Word) × List Word)
+    → ◌≡◌ {A = Option (List (Word × Word) × List Word)} (Some ([], words)) (Some found) → AreWritten words found
 none_before words found h = some_is ([], words) found (AreWritten words) h record { words_are = refl; whenless = tt }
 
-written_bare : (x : Word) (t : Bool) (found : List (Word × Word) × List Word) → cond {A = Option (List (Word × Word) × List Word)} t (Some ([], x ∷ [])) None ≡ Some found → AreWritten (x ∷ []) found
+written_bare : (x : Word) (t : Bool) (found : List (Word × Word) × List Word)
+    → cond {A = Option (List (Word × Word) × List Word)} t (Some ([], x ∷ [])) None ≡ Some found
+    → AreWritten (x ∷ []) found
 written_bare x false found h = cc
 written_bare x true found h = none_before (x ∷ []) found h
 
@@ -53,19 +51,23 @@ written_step x y more false false (Some f) found first second behind h =
       whenless = (is_not x first, (is_not y second, inner.whenless));
     }
 
-pub alternatives_are : (words : List Word) (found : List (Word × Word) × List Word) → alternatives_of words ≡ Some found → AreWritten words found
+pub alternatives_are : (words : List Word) (found : List (Word × Word) × List Word)
+    → alternatives_of words ≡ Some found → AreWritten words found
 alternatives_are [] found h = none_before [] found h
 alternatives_are (x ∷ []) found h = written_bare x (bytes_eq x (codes "when")) found h
 alternatives_are (x ∷ y ∷ more) found h =
     written_step x y more (bytes_eq x (codes "when")) (bytes_eq y (codes "when")) (alternatives_of more) found refl refl (λ b e. alternatives_are more b e) h
 
 -- where the words begin with an alternative, one is found
-pub some_found : (more : List Word) (found : List (Word × Word) × List Word) → is_no_alternative more ≡ false → alternatives_of more ≡ Some found → found.0 ≢ []
+pub some_found : (more : List Word) (found : List (Word × Word) × List Word) → is_no_alternative more ≡ false
+    → alternatives_of more ≡ Some found → found.0 ≢ []
 some_found [] found other h none = cc
 some_found (x ∷ []) found other h none = let e = rw other at h in cc
 some_found (x ∷ y ∷ more) found other h none = two (bytes_eq y (codes "when")) (alternatives_of more) (rw other at h)
   where
-    two : (u : Bool) (rest : Option (List (Word × Word) × List Word)) → cond {A = Option (List (Word × Word) × List Word)} u None (option_map (λ f. ((x, y) ∷ f.0, f.1)) rest) ≡ Some found → ⊥
+    two : (u : Bool) (rest : Option (List (Word × Word) × List Word))
+        → cond {A = Option (List (Word × Word) × List Word)} u None (option_map (λ f. ((x, y) ∷ f.0, f.1)) rest) ≡ Some found
+        → ⊥
     two true rest h = cc
     two false None h = cc
     two false (Some f) h =

@@ -27,7 +27,8 @@ second true b fails h = let no : ⊥ = cc in absurd no
 second false b fails h = h
 
 -- a number that is written within limits is within them
-number_within : (low high z : ℤ) → AreLimits low high → is_number low high (spelling z) ≡ true → (int_le low z ≡ true) × (int_le z high ≡ true)
+number_within : (low high z : ℤ) → AreLimits low high → is_number low high (spelling z) ≡ true
+    → (int_le low z ≡ true) × (int_le z high ≡ true)
 number_within low high z limits is =
     let read = is_spelled low high z limits is in
     and_parts (int_le low z) (int_le z high) (sym (ap (λ o. option_map_or (λ y. int_le low y && int_le y high) o false) read) ∙ is)
@@ -79,7 +80,8 @@ units_within n is =
     let most : int_le (pos n) (pos 1000000000) ≡ true = within.1 in
     (grind (arith, ints), grind (arith, ints))
 
-second_within : (first : ℕ) (second : Option Second) → is_first (count_word first) ≡ true → if_there (is_past (count_word first)) (option_map past_of second) ≡ true → IfSome second (IsSecond first)
+second_within : (first : ℕ) (second : Option Second) → is_first (count_word first) ≡ true
+    → if_there (is_past (count_word first)) (option_map past_of second) ≡ true → IfSome second (IsSecond first)
 second_within first None of_first is = tt
 second_within first (Some s) of_first is =
     let parts = and_parts (is_units (count_word s.after)) (is_above (magnitude_of (count_word first)) (count_word s.rate)) is in
@@ -102,7 +104,8 @@ most_within None is = tt
 most_within (Some n) is = amount_within n is
 
 -- a price, where there is one
-pub price_within : (price : Option Price) → if_there is_priced (option_map priced_of price) ≡ true → IfSome price IsPrice
+pub price_within : (price : Option Price) → if_there is_priced (option_map priced_of price) ≡ true
+    → IfSome price IsPrice
 price_within None is = tt
 price_within (Some p) is =
     let parts = and_parts (is_rated (rated_of (rate_in p))) (if_there is_amount (option_map count_word p.most)) is in
@@ -110,7 +113,8 @@ price_within (Some p) is =
     record { rate = rate.first; second = rate.second; most = most_within p.most parts.1 }
 
 -- the costs of alternatives
-pub costs_within : (alternatives : List (List ℕ × ℕ)) → list_all (λ a. is_amount a.1) (alternative_pairs alternatives) ≡ true → All (λ a. IsAmount a.1) alternatives
+pub costs_within : (alternatives : List (List ℕ × ℕ))
+    → list_all (λ a. is_amount a.1) (alternative_pairs alternatives) ≡ true → All (λ a. IsAmount a.1) alternatives
 costs_within [] is = All-nil (λ a. IsAmount a.1)
 costs_within (a ∷ more) is =
     let parts = and_parts (is_amount (count_word a.1)) (list_all (λ b. is_amount b.1) (alternative_pairs more)) is in
@@ -128,8 +132,10 @@ pub record UncertainIsWithin (low high : ℤ) (low_rate high_rate : Option Rate)
   pub lower_rate : IfSome low_rate IsRate
   pub upper_rate : IfSome high_rate IsRate
 
-pub uncertain_within : (c : Command) (name start end : List ℕ) (lower upper : ℤ) (lower_rate upper_rate : Option Rate) → IsCommand c
-    → c ≡ command.Uncertain name start end lower upper lower_rate upper_rate → UncertainIsWithin lower upper lower_rate upper_rate
+pub uncertain_within : (c : Command) (name start end : List ℕ) (lower upper : ℤ) (lower_rate upper_rate : Option Rate)
+    → IsCommand c
+    → c ≡ command.Uncertain name start end lower upper lower_rate upper_rate
+    → UncertainIsWithin lower upper lower_rate upper_rate
 uncertain_within c name start end lower upper lower_rate upper_rate good is =
     let numbers = (subst IsCommand is good).numbers in
     let last = and_parts (is_amount (spelling lower) && is_amount (spelling upper) && if_there is_rated (option_map rated_of lower_rate)) (if_there is_rated (option_map rated_of upper_rate)) numbers in
@@ -142,7 +148,8 @@ uncertain_within c name start end lower upper lower_rate upper_rate good is =
       upper_rate = rate_within upper_rate last.1;
     }
 
-pub choice_within : (c : Command) (name : List ℕ) (alternatives given : List (List ℕ × ℕ)) (guard : List (List ℕ × List ℕ)) → IsCommand c
+pub choice_within : (c : Command) (name : List ℕ) (alternatives given : List (List ℕ × ℕ)) (guard : List (List ℕ × List ℕ))
+    → IsCommand c
     → c ≡ command.Choice name alternatives guard → given ≡ alternatives → All (λ a. IsAmount a.1) given
 choice_within c name alternatives given guard good is same =
     subst (λ xs. All (λ a. IsAmount a.1) xs) (sym same) (costs_within alternatives (subst IsCommand is good).numbers)
@@ -151,7 +158,8 @@ pub record RequireIsWithin (low high : Bounded) : Type 0 where
   pub lower : AreWithinLimits low
   pub upper : AreWithinLimits high
 
-pub require_within : (c : Command) (name from to : List ℕ) (lower upper : Bounded) (guard : List (List ℕ × List ℕ)) → IsCommand c
+pub require_within : (c : Command) (name from to : List ℕ) (lower upper : Bounded) (guard : List (List ℕ × List ℕ))
+    → IsCommand c
     → c ≡ command.Require name from to lower upper guard → RequireIsWithin lower upper
 require_within c name from to lower upper guard good is =
     let numbers = (subst IsCommand is good).numbers in
@@ -163,23 +171,28 @@ require_within c name from to lower upper guard good is =
       upper = record { bound = bound_within upper.bound bounds.1; price = price_within upper.price last.1 };
     }
 
-pub new_bound_within : (c : Command) (name : List ℕ) (side : Side) (bound : Option ℤ) → IsCommand c → c ≡ command.Bound name side bound → IfSome bound IsBound
+pub new_bound_within : (c : Command) (name : List ℕ) (side : Side) (bound : Option ℤ) → IsCommand c
+    → c ≡ command.Bound name side bound → IfSome bound IsBound
 new_bound_within c name side bound good is = bound_within bound (subst IsCommand is good).numbers
 
-pub new_price_within : (c : Command) (name : List ℕ) (side : Side) (price : Option Price) → IsCommand c → c ≡ command.Price name side price → IfSome price IsPrice
+pub new_price_within : (c : Command) (name : List ℕ) (side : Side) (price : Option Price) → IsCommand c
+    → c ≡ command.Price name side price → IfSome price IsPrice
 new_price_within c name side price good is = price_within price (subst IsCommand is good).numbers
 
-pub new_rate_within : (c : Command) (name : List ℕ) (side : Side) (rate : Option Rate) → IsCommand c → c ≡ command.Rate name side rate → IfSome rate IsRate
+pub new_rate_within : (c : Command) (name : List ℕ) (side : Side) (rate : Option Rate) → IsCommand c
+    → c ≡ command.Rate name side rate → IfSome rate IsRate
 new_rate_within c name side rate good is = rate_within rate (subst IsCommand is good).numbers
 
 pub record RangeIsWithin (low high : ℤ) : Type 0 where
   pub lower : IsRangeEnd (to_z w64 (of_z w64 low))
   pub upper : IsRangeEnd (to_z w64 (of_z w64 high))
 
-pub range_within : (c : Command) (name : List ℕ) (lower upper : ℤ) → IsCommand c → c ≡ command.Range name lower upper → RangeIsWithin lower upper
+pub range_within : (c : Command) (name : List ℕ) (lower upper : ℤ) → IsCommand c → c ≡ command.Range name lower upper
+    → RangeIsWithin lower upper
 range_within c name lower upper good is =
     let ends = and_parts (is_amount (spelling lower)) (is_amount (spelling upper)) (subst IsCommand is good).numbers in
     record { lower = carried_end lower (end_within lower ends.0); upper = carried_end upper (end_within upper ends.1) }
 
-pub new_cost_within : (c : Command) (choice alternative : List ℕ) (cost : ℕ) → IsCommand c → c ≡ command.Prefer choice alternative cost → IsAmount cost
+pub new_cost_within : (c : Command) (choice alternative : List ℕ) (cost : ℕ) → IsCommand c
+    → c ≡ command.Prefer choice alternative cost → IsAmount cost
 new_cost_within c choice alternative cost good is = amount_within cost (subst IsCommand is good).numbers

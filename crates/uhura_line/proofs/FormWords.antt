@@ -30,7 +30,8 @@ both [] ys first more = more
 both (x ∷ xs) ys first more = (first.0, both xs ys first.1 more)
 
 -- a test that implies another does so of all bytes
-all_weaker : (p q : ℕ → Bool) → ((b : ℕ) → p b ≡ true → q b ≡ true) → (bs : List ℕ) → list_all p bs ≡ true → list_all q bs ≡ true
+all_weaker : (p q : ℕ → Bool) → ((b : ℕ) → p b ≡ true → q b ≡ true) → (bs : List ℕ) → list_all p bs ≡ true
+    → list_all q bs ≡ true
 all_weaker p q weaker [] h = refl
 all_weaker p q weaker (b ∷ bs) h =
     let parts = and_parts (p b) (list_all p bs) h in
@@ -76,7 +77,8 @@ minus_word (b ∷ bs) sign h =
     record { some = omega arith; short = omega (arith, (from_is_magnitude bs h).short); graphic = rw (to_graphic b (omega (arith, minus)) (omega (arith, minus))) digits.graphic }
 
 zero_word : (word : Word) → bytes_eq word (codes "0") ≡ true → IsWord word
-zero_word word h = subst IsWord (sym ((bytes_eq-Decides word (codes "0")).0 h)) (record { some = omega arith; short = omega arith; graphic = refl })
+zero_word word h =
+    subst IsWord (sym ((bytes_eq-Decides word (codes "0")).0 h)) (record { some = omega arith; short = omega arith; graphic = refl })
 
 -- by what kind of number it is
 number_by : (word : Word) (is_zero positive negative : Bool) (a b c z : ℤ)
@@ -98,7 +100,8 @@ unfolding number_of
 number_word word z h =
     number_by word (bytes_eq word (codes "0")) (is_magnitude word) (eqb (get_or word 0 0) 45 && is_magnitude (drop 1 word)) _ _ _ z refl refl refl h
 
-within_by : (low high : ℤ) (word : Word) (o : Option ℤ) → number_of word ≡ o → option_map_or (λ z. int_le low z && int_le z high) o false ≡ true → IsWord word
+within_by : (low high : ℤ) (word : Word) (o : Option ℤ) → number_of word ≡ o
+    → option_map_or (λ z. int_le low z && int_le z high) o false ≡ true → IsWord word
 within_by low high word None e h = absurd (true≢false (sym h))
 within_by low high word (Some z) e h = number_word word z e
 
@@ -107,8 +110,10 @@ within_word : (low high : ℤ) (word : Word) → is_number low high word ≡ tru
 within_word low high word h = within_by low high word (number_of word) refl h
 
 -- so is a bound
-bound_by : (word : Word) (none : Bool) → bytes_eq word (codes "-") ≡ none → (none || is_number (negsuc 999999999) (pos 1000000000) word) ≡ true → IsWord word
-bound_by word true e h = subst IsWord (sym ((bytes_eq-Decides word (codes "-")).0 e)) (record { some = omega arith; short = omega arith; graphic = refl })
+bound_by : (word : Word) (none : Bool) → bytes_eq word (codes "-") ≡ none
+    → (none || is_number (negsuc 999999999) (pos 1000000000) word) ≡ true → IsWord word
+bound_by word true e h =
+    subst IsWord (sym ((bytes_eq-Decides word (codes "-")).0 e)) (record { some = omega arith; short = omega arith; graphic = refl })
 bound_by word false e h = within_word (negsuc 999999999) (pos 1000000000) word h
 
 bound_is_word : (word : Word) → is_bound word ≡ true → IsWord word
@@ -125,7 +130,8 @@ three a b c h =
     (inner.0, inner.1, outer.1)
 
 -- a word that is given by its letters
-letters : (word : Word) → (ltb 0 (length word) && leb (length word) 32 && list_all is_graphic word) ≡ true → IsWord word
+letters : (word : Word) → (ltb 0 (length word) && leb (length word) 32 && list_all is_graphic word) ≡ true
+    → IsWord word
 letters word h =
     let parts = three (ltb 0 (length word)) (leb (length word) 32) (list_all is_graphic word) h in
     record { some = ltb-true _ _ parts.0; short = leb-true _ _ parts.1; graphic = parts.2 }
@@ -144,7 +150,8 @@ optional_are : (word : Option Word) → if_there is_amount word ≡ true → All
 optional_are None h = tt
 optional_are (Some word) h = (amount_is_word word h, tt)
 
-past_are : (first : Word) (second : Option Past) → if_there (is_past first) second ≡ true → AllByRecursion IsWord (past_words second)
+past_are : (first : Word) (second : Option Past) → if_there (is_past first) second ≡ true
+    → AllByRecursion IsWord (past_words second)
 past_are first None h = tt
 past_are first (Some p) h =
     let parts = and_parts (is_units p.units) (is_above (magnitude_of first) p.price) h in
@@ -160,19 +167,23 @@ priced_are p h =
     let parts = and_parts (is_rated p.rate) (if_there is_amount p.most) h in
     both (rated_words p.rate) (optional p.most) (rated_are p.rate parts.0) (optional_are p.most parts.1)
 
-rates_are : (side : Side) (rate : Option Rated) → if_there is_rated rate ≡ true → AllByRecursion IsWord (rate_words side rate)
+rates_are : (side : Side) (rate : Option Rated) → if_there is_rated rate ≡ true
+    → AllByRecursion IsWord (rate_words side rate)
 rates_are side None h = tt
 rates_are side (Some r) h = (side_is_word side, rated_are r h)
 
-prices_are : (side : Side) (price : Option Priced) → if_there is_priced price ≡ true → AllByRecursion IsWord (price_words side price)
+prices_are : (side : Side) (price : Option Priced) → if_there is_priced price ≡ true
+    → AllByRecursion IsWord (price_words side price)
 prices_are side None h = tt
 prices_are side (Some p) h = (side_is_word side, priced_are p h)
 
-set_prices_are : (price : Option Priced) → if_there is_priced price ≡ true → AllByRecursion IsWord (set_words priced_words price)
+set_prices_are : (price : Option Priced) → if_there is_priced price ≡ true
+    → AllByRecursion IsWord (set_words priced_words price)
 set_prices_are None h = (letters (codes "-") refl, tt)
 set_prices_are (Some p) h = priced_are p h
 
-set_rates_are : (rate : Option Rated) → if_there is_rated rate ≡ true → AllByRecursion IsWord (set_words rated_words rate)
+set_rates_are : (rate : Option Rated) → if_there is_rated rate ≡ true
+    → AllByRecursion IsWord (set_words rated_words rate)
 set_rates_are None h = (letters (codes "-") refl, tt)
 set_rates_are (Some r) h = rated_are r h
 
@@ -187,7 +198,8 @@ guard_are : (pairs : List (Word × Word)) → are_names pairs ≡ true → AllBy
 guard_are [] h = tt
 guard_are (pair ∷ pairs) h = (letters (codes "when") refl, pairs_are (pair ∷ pairs) h)
 
-alternatives_are : (pairs : List (Word × Word)) → list_all (λ a. is_name a.0) pairs ≡ true → list_all (λ a. is_amount a.1) pairs ≡ true → AllByRecursion IsWord (pair_words pairs)
+alternatives_are : (pairs : List (Word × Word)) → list_all (λ a. is_name a.0) pairs ≡ true
+    → list_all (λ a. is_amount a.1) pairs ≡ true → AllByRecursion IsWord (pair_words pairs)
 alternatives_are [] names numbers = tt
 alternatives_are (pair ∷ pairs) names numbers =
     let named = and_parts (is_name pair.0) (list_all (λ a. is_name a.0) pairs) names in
@@ -203,12 +215,14 @@ four a b c d h =
     (inner.0, inner.1, inner.2, outer.1)
 
 -- a verb, and the words behind it
-verb_and : (w : Word) (ws : List Word) → IsWord w → AllByRecursion IsWord ws → eqb (get_or w 0 0) 35 ≡ false → AreWords (w ∷ ws)
+verb_and : (w : Word) (ws : List Word) → IsWord w → AllByRecursion IsWord ws → eqb (get_or w 0 0) 35 ≡ false
+    → AreWords (w ∷ ws)
 verb_and w ws first more sign = (first, more, sign)
 
 -- what stands at the places of a form are words
 pub form_words : (form : Form) → has_names form ≡ true → has_numbers form ≡ true → AreWords (words_of form)
-form_words (forms.event n) names numbers = verb_and (codes "event") (n ∷ []) (letters (codes "event") refl) (name_word n names, tt) refl
+form_words (forms.event n) names numbers =
+    verb_and (codes "event") (n ∷ []) (letters (codes "event") refl) (name_word n names, tt) refl
 form_words (forms.uncertain n start end lo hi lower upper) names numbers =
     let named = three (is_name n) (is_name start) (is_name end) names in
     let numbered = four (is_amount lo) (is_amount hi) (if_there is_rated lower) (if_there is_rated upper) numbers in
@@ -226,7 +240,8 @@ form_words (forms.require n from to lo hi lower upper guard) names numbers =
     let terms = both (price_words Lower lower ++ price_words Upper upper) (guard_words guard) prices (guard_are guard named.3) in
     verb_and (codes "require") (n ∷ from ∷ to ∷ lo ∷ hi ∷ price_words Lower lower ++ price_words Upper upper ++ guard_words guard) (letters (codes "require") refl)
     (name_word n named.0, (name_word from named.1, (name_word to named.2, (bound_is_word lo numbered.0, (bound_is_word hi numbered.1, terms))))) refl
-form_words (forms.drop n) names numbers = verb_and (codes "drop") (n ∷ []) (letters (codes "drop") refl) (name_word n names, tt) refl
+form_words (forms.drop n) names numbers =
+    verb_and (codes "drop") (n ∷ []) (letters (codes "drop") refl) (name_word n names, tt) refl
 form_words (forms.bound n side b) names numbers =
     verb_and (codes "bound") (n ∷ side_word side ∷ b ∷ []) (letters (codes "bound") refl) (name_word n names, (side_is_word side, (bound_is_word b numbers, tt))) refl
 form_words (forms.price n side p) names numbers =
@@ -248,7 +263,8 @@ form_words (forms.cap v kind n side units) names numbers =
     let named = and_parts (is_name v) (is_name n) names in
     verb_and (codes "cap") (v ∷ kind_word kind ∷ n ∷ side_word side ∷ units ∷ []) (letters (codes "cap") refl)
     (name_word v named.0, (kind_is_word kind, (name_word n named.1, (side_is_word side, (amount_is_word units numbers, tt))))) refl
-form_words (forms.withdraw v) names numbers = verb_and (codes "withdraw") (v ∷ []) (letters (codes "withdraw") refl) (name_word v names, tt) refl
+form_words (forms.withdraw v) names numbers =
+    verb_and (codes "withdraw") (v ∷ []) (letters (codes "withdraw") refl) (name_word v names, tt) refl
 form_words forms.show names numbers = verb_and (codes "show") [] (letters (codes "show") refl) tt refl
 form_words forms.propose names numbers = verb_and (codes "propose") [] (letters (codes "propose") refl) tt refl
 form_words forms.prove names numbers = verb_and (codes "prove") [] (letters (codes "prove") refl) tt refl

@@ -40,4 +40,5 @@ length-rate_words side (Some r) = omega (arith, length-past_words r.second)
 
 pub length-price_words : (side : Side) (price : Option Priced) → length (price_words side price) ≤ 6
 length-price_words side None = omega arith
-length-price_words side (Some p) = omega (arith, length-past_words p.rate.second, length-optional p.most, length-append (rated_words p.rate) (optional p.most))
+length-price_words side (Some p) =
+    omega (arith, length-past_words p.rate.second, length-optional p.most, length-append (rated_words p.rate) (optional p.most))

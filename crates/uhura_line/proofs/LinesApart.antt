@@ -22,14 +22,16 @@ whole-good (b ∷ bs) good =
 -- no CR ends good bytes
 no_cr : (line : List ℕ) → list_all is_good line ≡ true → get_or line (length line - 1) 0 ≢ 13
 no_cr [] good cr = cc
-no_cr (b ∷ bs) good cr = good_other (get_or (b ∷ bs) (length (b ∷ bs) - 1) 0) 13 refl (AllPass-from_list_all is_good (b ∷ bs) good (length (b ∷ bs) - 1) 0 (omega arith)) cr
+no_cr (b ∷ bs) good cr =
+    good_other (get_or (b ∷ bs) (length (b ∷ bs) - 1) 0) 13 refl (AllPass-from_list_all is_good (b ∷ bs) good (length (b ∷ bs) - 1) 0 (omega arith)) cr
 
 -- so they are shown as they are
 shown-good : (line : List ℕ) → list_all is_good line ≡ true → length line ≤ 4096 → shown (behind line) ≡ line
 shown-good line good short = rw (whole-good line good) (sym (shown-without_cr line short (no_cr line good)))
 
 -- the line in front of a newline is the first, and the lines behind it are the others
-pub lines-cons : (line rest : List ℕ) → list_all is_good line ≡ true → length line ≤ 4096 → lines (line ++ 10 ∷ rest) ≡ line ∷ lines rest
+pub lines-cons : (line rest : List ℕ) → list_all is_good line ≡ true → length line ≤ 4096
+    → lines (line ++ 10 ∷ rest) ≡ line ∷ lines rest
 lines-cons line rest good short =
     let ended : List ℕ = line ++ 10 ∷ [] in
     let first : lines (whole ended) ≡ line ∷ [] = lines-push_newline line ∙ rw (shown-good line good short, whole-good line good, lines-nil) refl in

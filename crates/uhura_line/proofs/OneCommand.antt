@@ -41,11 +41,13 @@ count_at word = count_in (number_at word)
 bound_at : Word → Option ℤ
 bound_at word = cond (bytes_eq word (codes "-")) None (Some (number_at word))
 
-number_at-spelling : (low high z : ℤ) → AreLimits low high → is_number low high (spelling z) ≡ true → number_at (spelling z) ≡ z
+number_at-spelling : (low high z : ℤ) → AreLimits low high → is_number low high (spelling z) ≡ true
+    → number_at (spelling z) ≡ z
 unfolding number_at number_in
 number_at-spelling low high z limits is = rw (is_spelled low high z limits is) refl
 
-count_at-word : (low high : ℤ) (n : ℕ) → AreLimits low high → is_number low high (count_word n) ≡ true → count_at (count_word n) ≡ n
+count_at-word : (low high : ℤ) (n : ℕ) → AreLimits low high → is_number low high (count_word n) ≡ true
+    → count_at (count_word n) ≡ n
 unfolding count_at count_in
 count_at-word low high n limits is = ap count_in (number_at-spelling low high (pos n) limits is)
 
@@ -61,15 +63,20 @@ spelling-number_at : (low high : ℤ) (word : Word) → is_number low high word 
 unfolding number_at number_in
 spelling-number_at low high word is = by_read (number_of word) refl is
   where
-    by_read : (read : Option ℤ) → number_of word ≡ read → option_map_or (λ y. int_le low y && int_le y high) read false ≡ true → spelling (number_in (number_of word)) ≡ word
+    by_read : (read : Option ℤ) → number_of word ≡ read
+        → option_map_or (λ y. int_le low y && int_le y high) read false ≡ true
+        → spelling (number_in (number_of word)) ≡ word
     by_read None none within = cc
     by_read (Some y) some within = rw some (sym (spelling-number_of word y some))
 
-word-count_at : (low : ℕ) (high : ℤ) (word : Word) → is_number (pos low) high word ≡ true → count_word (count_at word) ≡ word
+word-count_at : (low : ℕ) (high : ℤ) (word : Word) → is_number (pos low) high word ≡ true
+    → count_word (count_at word) ≡ word
 unfolding count_at count_in number_at number_in
 word-count_at low high word is = by_read (number_of word) refl is
   where
-    by_read : (read : Option ℤ) → number_of word ≡ read → option_map_or (λ y. int_le (pos low) y && int_le y high) read false ≡ true → count_word (count_in (number_in (number_of word))) ≡ word
+    by_read : (read : Option ℤ) → number_of word ≡ read
+        → option_map_or (λ y. int_le (pos low) y && int_le y high) read false ≡ true
+        → count_word (count_in (number_in (number_of word))) ≡ word
     by_read None none within = cc
     by_read (Some (pos n)) some within = rw some (sym (spelling-number_of word (pos n) some))
     by_read (Some (negsuc n)) some within = cc
@@ -78,17 +85,21 @@ word-bound_at : (word : Word) → is_bound word ≡ true → bound_word (bound_a
 unfolding bound_at
 word-bound_at word is = by_dash (bytes_eq word (codes "-")) refl is
   where
-    by_dash : (dash : Bool) → bytes_eq word (codes "-") ≡ dash → (dash || is_number (negsuc 999999999) (pos 1000000000) word) ≡ true → bound_word (cond (bytes_eq word (codes "-")) None (Some (number_at word))) ≡ word
+    by_dash : (dash : Bool) → bytes_eq word (codes "-") ≡ dash
+        → (dash || is_number (negsuc 999999999) (pos 1000000000) word) ≡ true
+        → bound_word (cond (bytes_eq word (codes "-")) None (Some (number_at word))) ≡ word
     by_dash true none is = rw none (sym ((bytes_eq-Decides word (codes "-")).0 none))
     by_dash false some is = rw some (spelling-number_at (negsuc 999999999) (pos 1000000000) word is)
 
 -- ---- parts of a form that may be missing
 
-amounts_at-words : (most : Option ℕ) → if_there is_amount (option_map count_word most) ≡ true → option_map count_at (option_map count_word most) ≡ most
+amounts_at-words : (most : Option ℕ) → if_there is_amount (option_map count_word most) ≡ true
+    → option_map count_at (option_map count_word most) ≡ most
 amounts_at-words None is = refl
 amounts_at-words (Some n) is = ap Some (count_at-word (pos 0) (pos 1000000000) n amount_limits is)
 
-words-amounts_at : (words : Option Word) → if_there is_amount words ≡ true → option_map count_word (option_map count_at words) ≡ words
+words-amounts_at : (words : Option Word) → if_there is_amount words ≡ true
+    → option_map count_word (option_map count_at words) ≡ words
 words-amounts_at None is = refl
 words-amounts_at (Some word) is = ap Some (word-count_at 0 (pos 1000000000) word is)
 
@@ -96,14 +107,17 @@ words-amounts_at (Some word) is = ap Some (word-count_at 0 (pos 1000000000) word
 second_at : Past → Second
 second_at p = record { after = count_at p.units; rate = count_at p.price }
 
-seconds_at-words : (first : ℕ) (second : Option Second) → is_first (count_word first) ≡ true → if_there (is_past (count_word first)) (option_map past_of second) ≡ true → option_map second_at (option_map past_of second) ≡ second
+seconds_at-words : (first : ℕ) (second : Option Second) → is_first (count_word first) ≡ true
+    → if_there (is_past (count_word first)) (option_map past_of second) ≡ true
+    → option_map second_at (option_map past_of second) ≡ second
 unfolding second_at
 seconds_at-words first None is_first is = refl
 seconds_at-words first (Some s) is_first is =
     let parts = and_parts (is_units (count_word s.after)) (is_above (magnitude_of (count_word first)) (count_word s.rate)) is in
     rw (count_at-word (pos 1) (pos 1000000000) s.after units_limits parts.0, count_at-word (pos (magnitude_of (count_word first) + 1)) (pos 1000000) s.rate (above_limits (magnitude_of (count_word first))) parts.1) refl
 
-words-seconds_at : (first : Word) (second : Option Past) → if_there (is_past first) second ≡ true → option_map past_of (option_map second_at second) ≡ second
+words-seconds_at : (first : Word) (second : Option Past) → if_there (is_past first) second ≡ true
+    → option_map past_of (option_map second_at second) ≡ second
 unfolding second_at
 words-seconds_at first None is = refl
 words-seconds_at first (Some p) is =
@@ -126,11 +140,13 @@ words-rate_at r is =
     let parts = and_parts (is_first r.first) (if_there (is_past r.first) r.second) is in
     rw (word-count_at 1 (pos 1000000) r.first parts.0, words-seconds_at r.first r.second parts.1) refl
 
-rates_at-words : (rate : Option Rate) → if_there is_rated (option_map rated_of rate) ≡ true → option_map rate_at (option_map rated_of rate) ≡ rate
+rates_at-words : (rate : Option Rate) → if_there is_rated (option_map rated_of rate) ≡ true
+    → option_map rate_at (option_map rated_of rate) ≡ rate
 rates_at-words None is = refl
 rates_at-words (Some r) is = ap Some (rate_at-words r is)
 
-words-rates_at : (words : Option Rated) → if_there is_rated words ≡ true → option_map rated_of (option_map rate_at words) ≡ words
+words-rates_at : (words : Option Rated) → if_there is_rated words ≡ true
+    → option_map rated_of (option_map rate_at words) ≡ words
 words-rates_at None is = refl
 words-rates_at (Some r) is = ap Some (words-rate_at r is)
 
@@ -141,7 +157,8 @@ price_of r most = record { rate = r.first; second = r.second; most = most }
 price_at : Priced → Price
 price_at p = price_of (rate_at p.rate) (option_map count_at p.most)
 
-prices_at-words : (p : Option Price) → if_there is_priced (option_map priced_of p) ≡ true → option_map price_at (option_map priced_of p) ≡ p
+prices_at-words : (p : Option Price) → if_there is_priced (option_map priced_of p) ≡ true
+    → option_map price_at (option_map priced_of p) ≡ p
 unfolding price_at price_of
 prices_at-words None is = refl
 prices_at-words (Some p) is =
@@ -160,14 +177,17 @@ words-prices_at (Some p) is =
 alternatives_at : List (Word × Word) → List (List ℕ × ℕ)
 alternatives_at pairs = map (λ pair. (pair.0, count_at pair.1)) pairs
 
-alternatives_at-pairs : (alternatives : List (List ℕ × ℕ)) → list_all (λ a. is_amount a.1) (alternative_pairs alternatives) ≡ true → alternatives_at (alternative_pairs alternatives) ≡ alternatives
+alternatives_at-pairs : (alternatives : List (List ℕ × ℕ))
+    → list_all (λ a. is_amount a.1) (alternative_pairs alternatives) ≡ true
+    → alternatives_at (alternative_pairs alternatives) ≡ alternatives
 unfolding alternatives_at
 alternatives_at-pairs [] is = refl
 alternatives_at-pairs (a ∷ alternatives) is =
     let parts = and_parts (is_amount (count_word a.1)) (list_all (λ a. is_amount a.1) (alternative_pairs alternatives)) is in
     rw (count_at-word (pos 0) (pos 1000000000) a.1 amount_limits parts.0, alternatives_at-pairs alternatives parts.1) refl
 
-pairs-alternatives_at : (pairs : List (Word × Word)) → list_all (λ a. is_amount a.1) pairs ≡ true → alternative_pairs (alternatives_at pairs) ≡ pairs
+pairs-alternatives_at : (pairs : List (Word × Word)) → list_all (λ a. is_amount a.1) pairs ≡ true
+    → alternative_pairs (alternatives_at pairs) ≡ pairs
 unfolding alternatives_at
 pairs-alternatives_at [] is = refl
 pairs-alternatives_at (pair ∷ pairs) is =
@@ -198,16 +218,21 @@ name_of-at duration n = refl
 side_at : Word → Option Priced → Bounded
 side_at b p = record { bound = bound_at b; price = option_map price_at p }
 
-side_at-words : (side : Bounded) → is_bound (bound_word side.bound) ≡ true → if_there is_priced (option_map priced_of side.price) ≡ true → side_at (bound_word side.bound) (option_map priced_of side.price) ≡ side
+side_at-words : (side : Bounded) → is_bound (bound_word side.bound) ≡ true
+    → if_there is_priced (option_map priced_of side.price) ≡ true
+    → side_at (bound_word side.bound) (option_map priced_of side.price) ≡ side
 unfolding side_at
-side_at-words side of_bound of_price = rw (bound_at-word side.bound of_bound, prices_at-words side.price of_price) refl
+side_at-words side of_bound of_price =
+    rw (bound_at-word side.bound of_bound, prices_at-words side.price of_price) refl
 
 -- the command of a form
 command_of : Form → Command
 command_of (event n) = command.Event n
-command_of (uncertain n start end lo hi lower upper) = command.Uncertain n start end (number_at lo) (number_at hi) (option_map rate_at lower) (option_map rate_at upper)
+command_of (uncertain n start end lo hi lower upper) =
+    command.Uncertain n start end (number_at lo) (number_at hi) (option_map rate_at lower) (option_map rate_at upper)
 command_of (choice n alternatives guard) = command.Choice n (alternatives_at alternatives) guard
-command_of (require n from to lo hi lower upper guard) = command.Require n from to (side_at lo lower) (side_at hi upper) guard
+command_of (require n from to lo hi lower upper guard) =
+    command.Require n from to (side_at lo lower) (side_at hi upper) guard
 command_of (form.drop n) = command.Drop n
 command_of (bound n side b) = command.Bound n side (bound_at b)
 command_of (price n side p) = command.Price n side (option_map price_at p)
@@ -243,9 +268,11 @@ command_of-form_of (command.Rate n side r) is = rw (rates_at-words r is) refl
 command_of-form_of (command.Range n lo hi) is =
     let (first, second) = and_parts (is_amount (spelling lo)) (is_amount (spelling hi)) is in
     rw (number_at-spelling (pos 0) (pos 1000000000) lo amount_limits first, number_at-spelling (pos 0) (pos 1000000000) hi amount_limits second) refl
-command_of-form_of (command.Prefer c a cost) is = rw (count_at-word (pos 0) (pos 1000000000) cost amount_limits is) refl
+command_of-form_of (command.Prefer c a cost) is =
+    rw (count_at-word (pos 0) (pos 1000000000) cost amount_limits is) refl
 command_of-form_of (command.Deny v literals) is = refl
-command_of-form_of (command.Cap v i side units) is = rw (item_at-of i, count_at-word (pos 0) (pos 1000000000) units amount_limits is) refl
+command_of-form_of (command.Cap v i side units) is =
+    rw (item_at-of i, count_at-word (pos 0) (pos 1000000000) units amount_limits is) refl
 command_of-form_of (command.Withdraw v) is = refl
 command_of-form_of command.Show is = refl
 command_of-form_of command.Propose is = refl
@@ -275,7 +302,8 @@ form_of-command_of (range n lo hi) is =
     rw (spelling-number_at (pos 0) (pos 1000000000) lo first, spelling-number_at (pos 0) (pos 1000000000) hi second) refl
 form_of-command_of (prefer c a cost) is = rw (word-count_at 0 (pos 1000000000) cost is) refl
 form_of-command_of (deny v literals) is = refl
-form_of-command_of (cap v kind n side units) is = rw (kind_of-at kind n, name_of-at kind n, word-count_at 0 (pos 1000000000) units is) refl
+form_of-command_of (cap v kind n side units) is =
+    rw (kind_of-at kind n, name_of-at kind n, word-count_at 0 (pos 1000000000) units is) refl
 form_of-command_of (withdraw v) is = refl
 form_of-command_of show is = refl
 form_of-command_of propose is = refl
@@ -287,11 +315,14 @@ one_command c d same is_c is_d =
     sym (command_of-form_of c is_c.numbers) ∙ ap command_of same ∙ command_of-form_of d is_d.numbers
 
 -- so no line has two
-pub one_command_of_line : (words : List Word) (c d : Command) → IsForm words (form_of c) → IsForm words (form_of d) → IsCommand c → IsCommand d → c ≡ d
-one_command_of_line words c d of_c of_d is_c is_d = one_command c d (one_form words (form_of c) (form_of d) of_c of_d) is_c is_d
+pub one_command_of_line : (words : List Word) (c d : Command) → IsForm words (form_of c) → IsForm words (form_of d)
+    → IsCommand c → IsCommand d → c ≡ d
+one_command_of_line words c d of_c of_d is_c is_d =
+    one_command c d (one_form words (form_of c) (form_of d) of_c of_d) is_c is_d
 
 -- a form whose numbers and names are such is the form of a command
-pub some_command : (f : Form) → IsTaken f → has_numbers f ≡ true → has_names f ≡ true → (c : Command) × (form_of c ≡ f) × IsCommand c
+pub some_command : (f : Form) → IsTaken f → has_numbers f ≡ true → has_names f ≡ true
+    → (c : Command) × (form_of c ≡ f) × IsCommand c
 some_command f taken numbers names =
     let same : form_of (command_of f) ≡ f = form_of-command_of f numbers in (
       command_of f,
@@ -304,7 +335,8 @@ some_command f taken numbers names =
     )
 
 -- so words of such a form give a command
-pub some_command_of_line : (words : List Word) (f : Form) → IsForm words f → has_numbers f ≡ true → has_names f ≡ true → (c : Command) × IsForm words (form_of c) × IsCommand c
+pub some_command_of_line : (words : List Word) (f : Form) → IsForm words f → has_numbers f ≡ true → has_names f ≡ true
+    → (c : Command) × IsForm words (form_of c) × IsCommand c
 some_command_of_line words f of_f numbers names =
     let (c, same, is) = some_command f of_f.taken numbers names in
     (c, subst (λ (g : Form). IsForm words g) (sym same) of_f, is)

@@ -11,7 +11,8 @@ use Rattle.uhura_text.proofs.SpellingLemmas.{number_of-spelling, spelling-number
 use Rattle.uhura_line.specs.Reads.{count_word, magnitude_of, is_number, is_first}
 
 -- a bound on the lengths of both of two lists
-either_long : (test : Bool) (m : ℕ) (first second : List ℕ) → m ≤ length first → m ≤ length second → m ≤ length (cond test first second)
+either_long : (test : Bool) (m : ℕ) (first second : List ℕ) → m ≤ length first → m ≤ length second
+    → m ≤ length (cond test first second)
 either_long true m first second a b = a
 either_long false m first second a b = b
 
@@ -23,7 +24,8 @@ longer (suc turns) n rest =
     either_long ((n / 10) == 0) (length rest) (digit_glyph false (n % 10) ∷ rest) (digits_onto turns 10 false (n / 10) (digit_glyph false (n % 10) ∷ rest)) (omega arith) (omega arith)
 
 -- a number of more than k digits, where there are turns enough
-many_digits : (k turns n : ℕ) (rest : List ℕ) → 10 ^ k ≤ n → k < turns → length rest + k < length (digits_onto turns 10 false n rest)
+many_digits : (k turns n : ℕ) (rest : List ℕ) → 10 ^ k ≤ n → k < turns
+    → length rest + k < length (digits_onto turns 10 false n rest)
 many_digits k zero n rest h enough = absurd (omega arith)
 many_digits zero (suc turns) n rest h enough =
     let more : length (digit_glyph false (n % 10) ∷ rest) ≤ length (digits_onto turns 10 false (n / 10) (digit_glyph false (n % 10) ∷ rest)) = longer turns (n / 10) (digit_glyph false (n % 10) ∷ rest) in
@@ -57,7 +59,8 @@ short_spelling (negsuc n) short = elim (cases_lt (suc n) (10 ^ 30)) [
 -- a number of at most 10 digits is spelled so
 spelling-short : (z : ℤ) → unsigned_abs z ≤ 1000000000 → length (spelling z) ≤ 11
 spelling-short (pos n) small = omega (arith, length-decimal-le_wide 10 n (omega arith) (omega arith) (omega arith))
-spelling-short (negsuc n) small = omega (arith, length-decimal-le_wide 10 (suc n) (omega arith) (omega arith) (omega arith))
+spelling-short (negsuc n) small =
+    omega (arith, length-decimal-le_wide 10 (suc n) (omega arith) (omega arith) (omega arith))
 
 -- the limits of a bound keep that
 in_limits : (z : ℤ) → (int_le (negsuc 999999999) z && int_le z (pos 1000000000)) ≡ true → unsigned_abs z ≤ 1000000000
@@ -68,10 +71,12 @@ pub record AreLimits (low high : ℤ) : Type 0 where
   pub small : (z : ℤ) → (int_le low z && int_le z high) ≡ true → unsigned_abs z ≤ 1000000000
 
 -- the number that is read from a spelling within limits is the one that is spelled
-pub is_spelled : (low high z : ℤ) → AreLimits low high → is_number low high (spelling z) ≡ true → number_of (spelling z) ≡ Some z
+pub is_spelled : (low high z : ℤ) → AreLimits low high → is_number low high (spelling z) ≡ true
+    → number_of (spelling z) ≡ Some z
 is_spelled low high z limits is = by_read (number_of (spelling z)) refl is
   where
-    by_read : (read : Option ℤ) → number_of (spelling z) ≡ read → option_map_or (λ y. int_le low y && int_le y high) read false ≡ true → number_of (spelling z) ≡ Some z
+    by_read : (read : Option ℤ) → number_of (spelling z) ≡ read
+        → option_map_or (λ y. int_le low y && int_le y high) read false ≡ true → number_of (spelling z) ≡ Some z
     by_read None none within = cc
     by_read (Some y) some within =
         let same : spelling z ≡ spelling y = spelling-number_of (spelling z) y some in

@@ -17,18 +17,23 @@ use Rattle.uhura_line.proofs.Settled.{accepted}
 -- ---- a line of the command's words gives the command
 
 -- its words are of the command's form
-is_form : (line : List ℕ) (c : Command) → IsCommand c → ReadsAs line (words_of (form_of c)) → IsForm (words line) (form_of c)
+is_form : (line : List ℕ) (c : Command) → IsCommand c → ReadsAs line (words_of (form_of c))
+    → IsForm (words line) (form_of c)
 is_form line c is reads = record { words_are = reads.words_are; taken = is.taken }
 
-given : (line : List ℕ) (c d : Command) → IsCommand c → ReadsAs line (words_of (form_of c)) → ParsesWords (words line) (Ok d) → IsGiven c (Ok (Some d))
-given line c d is reads h = inl (ap (λ x. Ok (Some x)) (one_command_of_line (words line) d c h.0 (is_form line c is reads) h.1 is))
+given : (line : List ℕ) (c d : Command) → IsCommand c → ReadsAs line (words_of (form_of c))
+    → ParsesWords (words line) (Ok d) → IsGiven c (Ok (Some d))
+given line c d is reads h =
+    inl (ap (λ x. Ok (Some x)) (one_command_of_line (words line) d c h.0 (is_form line c is reads) h.1 is))
 
-refused : (line : List ℕ) (c : Command) (r : LineRefusal) → IsCommand c → ReadsAs line (words_of (form_of c)) → ParsesWords (words line) (Err r) → IsGiven c (Err r)
+refused : (line : List ℕ) (c : Command) (r : LineRefusal) → IsCommand c → ReadsAs line (words_of (form_of c))
+    → ParsesWords (words line) (Err r) → IsGiven c (Err r)
 refused line c r is reads h =
     let memory = accepted (words line) c r (is_form line c is reads, is) h in
     inr (memory.0, ap (λ x. Err x) memory.1)
 
-pub parsed_back : (line : List ℕ) (c : Command) (result : Result (Option Command) LineRefusal) → IsCommand c → ReadsAs line (words_of (form_of c)) → length line ≤ 4096 → Parses line result → IsGiven c result
+pub parsed_back : (line : List ℕ) (c : Command) (result : Result (Option Command) LineRefusal) → IsCommand c
+    → ReadsAs line (words_of (form_of c)) → length line ≤ 4096 → Parses line result → IsGiven c result
 parsed_back line c (Ok None) is reads short h = let asks = reads.asks in let quiet = h.1 in cc
 parsed_back line c (Ok (Some d)) is reads short h = given line c d is reads h.1
 parsed_back line c (Err Long) is reads short h = absurd (omega (arith, h))
@@ -49,7 +54,8 @@ stretch : List Word → ℕ
 stretch [] = 0
 stretch (piece ∷ pieces) = length piece + 1 + stretch pieces
 
-stretch-onto_first : (b : ℕ) (pieces : List Word) → 1 ≤ length pieces → stretch (onto_first b pieces) ≡ stretch pieces + 1
+stretch-onto_first : (b : ℕ) (pieces : List Word) → 1 ≤ length pieces
+    → stretch (onto_first b pieces) ≡ stretch pieces + 1
 unfolding stretch
 stretch-onto_first b [] some = absurd (omega arith)
 stretch-onto_first b (piece ∷ pieces) some = omega arith
@@ -62,7 +68,8 @@ unfolding stretch
 stretch-split [] = omega arith
 stretch-split (b ∷ bs) = by_test (is_blank b) (stretch-split bs)
   where
-    by_test : (t : Bool) → stretch (slice_split is_blank bs) ≡ length bs + 1 → stretch (cond {A = List Word} t ([] ∷ slice_split is_blank bs) (onto_first b (slice_split is_blank bs))) ≡ length (b ∷ bs) + 1
+    by_test : (t : Bool) → stretch (slice_split is_blank bs) ≡ length bs + 1
+        → stretch (cond {A = List Word} t ([] ∷ slice_split is_blank bs) (onto_first b (slice_split is_blank bs))) ≡ length (b ∷ bs) + 1
     by_test true rest = omega arith
     by_test false rest = let more = stretch-onto_first b (slice_split is_blank bs) (one_piece bs) in omega arith
 
@@ -71,7 +78,8 @@ unfolding stretch
 stretch-filter test [] = omega arith
 stretch-filter test (piece ∷ pieces) = by_test (test piece) (stretch-filter test pieces)
   where
-    by_test : (t : Bool) → stretch (filter test pieces) ≤ stretch pieces → stretch (cond {A = List Word} t (piece ∷ filter test pieces) (filter test pieces)) ≤ length piece + 1 + stretch pieces
+    by_test : (t : Bool) → stretch (filter test pieces) ≤ stretch pieces
+        → stretch (cond {A = List Word} t (piece ∷ filter test pieces) (filter test pieces)) ≤ length piece + 1 + stretch pieces
     by_test true rest = omega arith
     by_test false rest = omega arith
 
@@ -94,5 +102,7 @@ at_most : (ws : List Word) (n : ℕ) → stretch ws ≤ n + 1 → length (line_o
 at_most [] n h = omega arith
 at_most (w ∷ ws) n h = let e = length-line_of w ws in omega arith
 
-pub no_longer : (line : List ℕ) (c : Command) → Parses line (Ok (Some c)) → length (line_of (words_of (form_of c))) ≤ length line + 1
-no_longer line c h = at_most (words_of (form_of c)) (length line) (subst (λ (ws : List Word). stretch ws ≤ length line + 1) h.1.0.words_are (stretch-words line))
+pub no_longer : (line : List ℕ) (c : Command) → Parses line (Ok (Some c))
+    → length (line_of (words_of (form_of c))) ≤ length line + 1
+no_longer line c h =
+    at_most (words_of (form_of c)) (length line) (subst (λ (ws : List Word). stretch ws ≤ length line + 1) h.1.0.words_are (stretch-words line))

@@ -26,7 +26,8 @@ graphic_no_blank b h =
 
 -- no byte of a word is a blank
 no_blank : (word : Word) → list_all is_graphic word ≡ true → All (λ b. is_blank b ≡ false) word
-no_blank word h = λ k d within. graphic_no_blank (get_or word k d) (AllPass-from_list_all is_graphic word h k d within)
+no_blank word h =
+    λ k d within. graphic_no_blank (get_or word k d) (AllPass-from_list_all is_graphic word h k d within)
 
 -- the test that keeps the pieces that aren't empty
 abbrev kept : List (List ℕ) → List (List ℕ)
@@ -58,7 +59,8 @@ good_word (b ∷ bs) h =
 
 good_spaced : (ws : List Word) → AllByRecursion IsWord ws → list_all is_good (spaced ws) ≡ true
 good_spaced [] more = refl
-good_spaced (w ∷ ws) more = list_all-append is_good w (spaced ws) ∙ rw (good_word w more.0.graphic) (good_spaced ws more.1)
+good_spaced (w ∷ ws) more =
+    list_all-append is_good w (spaced ws) ∙ rw (good_word w more.0.graphic) (good_spaced ws more.1)
 
 none_bad : (bs : List ℕ) → list_all is_good bs ≡ true → list_any (λ b. not (is_good b)) bs ≡ false
 none_bad [] h = refl
@@ -66,21 +68,27 @@ none_bad (b ∷ bs) h =
     let parts = and_parts (is_good b) (list_all is_good bs) h in
     rw parts.0 (none_bad bs parts.1)
 
-good_joined : (w : Word) (ws : List Word) → IsWord w → AllByRecursion IsWord ws → list_all is_good (joined (w ∷ ws)) ≡ true
-good_joined w ws first more = list_all-append is_good w (spaced ws) ∙ rw (good_word w first.graphic) (good_spaced ws more)
+good_joined : (w : Word) (ws : List Word) → IsWord w → AllByRecursion IsWord ws
+    → list_all is_good (joined (w ∷ ws)) ≡ true
+good_joined w ws first more =
+    list_all-append is_good w (spaced ws) ∙ rw (good_word w first.graphic) (good_spaced ws more)
 
-first_bad-joined : (w : Word) (ws : List Word) → IsWord w → AllByRecursion IsWord ws → first_bad (joined (w ∷ ws)) ≡ None
+first_bad-joined : (w : Word) (ws : List Word) → IsWord w → AllByRecursion IsWord ws
+    → first_bad (joined (w ∷ ws)) ≡ None
 unfolding first_bad
-first_bad-joined w ws first more = position_none (λ b. not (is_good b)) (w ++ spaced ws) (none_bad (w ++ spaced ws) (good_joined w ws first more))
+first_bad-joined w ws first more =
+    position_none (λ b. not (is_good b)) (w ++ spaced ws) (none_bad (w ++ spaced ws) (good_joined w ws first more))
 
 -- a line whose first byte is graphic, and no `#`, is neither blank nor a comment
 asks-cons : (b : ℕ) (bs : List ℕ) → is_graphic b ≡ true → eqb b 35 ≡ false → is_quiet (b ∷ bs) ≡ false
 unfolding is_quiet
 asks-cons b bs graphic sign = rw (graphic_no_blank b graphic, sign) refl
 
-asks-joined : (w : Word) (ws : List Word) → IsWord w → eqb (get_or w 0 0) 35 ≡ false → is_quiet (joined (w ∷ ws)) ≡ false
+asks-joined : (w : Word) (ws : List Word) → IsWord w → eqb (get_or w 0 0) 35 ≡ false
+    → is_quiet (joined (w ∷ ws)) ≡ false
 asks-joined [] ws first sign = absurd (omega (arith, first.some))
-asks-joined (b ∷ bs) ws first sign = asks-cons b (bs ++ spaced ws) (and_parts (is_graphic b) (list_all is_graphic bs) first.graphic).0 sign
+asks-joined (b ∷ bs) ws first sign =
+    asks-cons b (bs ++ spaced ws) (and_parts (is_graphic b) (list_all is_graphic bs) first.graphic).0 sign
 
 -- at least one word, and the first doesn't begin with `#`
 abbrev pub AreWords : List Word → Type 0

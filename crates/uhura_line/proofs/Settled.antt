@@ -1,16 +1,16 @@
 -- What a line is parsed to is settled.
-use Rattle.std.proofs.Common.{◌≡◌, true, false, List, [], ◌∷◌, Option, Some, None, Ok, Err, is_some, refl, sym, ◌∙◌}
+use Rattle.std.proofs.Common.{◌≡◌, true, List, [], ◌∷◌, Option, Some, None, Ok, Err, is_some, refl, sym, ◌∙◌}
 use Rattle.std.specs.Prelude.{if◌then◌else◌}
 use Rattle.std.specs.Option.{option_map_or, option_and_then}
 use Rattle.std.specs.declared.alloc.AllocError.{AllocError}
 use Rattle.uhura_line.specs.declared.command.Command.{Command}
-use Rattle.uhura_line.specs.declared.parsing.verb.Verb.{Verb}
+use Rattle.uhura_line.specs.declared.verb.Verb.{Verb}
 use Rattle.uhura_line.specs.declared.refusal.LineRefusal.{LineRefusal}
 use Rattle.uhura_line.specs.declared.refusal.LineRefusal.TheVariants as refusal
 use Rattle.uhura_line.specs.Form.{Word, Form, IsForm}
 use Rattle.uhura_line.specs.Reads.{form_of, has_numbers, has_names}
 use Rattle.uhura_line.specs.Verbs.{verb_in, form_behind, form_in}
-use Rattle.uhura_line.specs.Parses.{begins_with_verb, HasForm, ParsesWords}
+use Rattle.uhura_line.specs.Parses.{begins_with_verb, ParsesWords}
 use Rattle.uhura_line.proofs.OneForm.{found_in_line, form_are}
 
 -- why words of a form, or words, give no command, want of memory aside
@@ -18,7 +18,8 @@ form_cause : Form → Option LineRefusal
 form_cause f = if has_numbers f then (if has_names f then None else Some refusal.Name) else Some refusal.Number
 
 cause : List Word → Option LineRefusal
-cause line = if begins_with_verb line then option_map_or form_cause (form_in line) (Some refusal.Form) else Some refusal.Verb
+cause line =
+    if begins_with_verb line then option_map_or form_cause (form_in line) (Some refusal.Form) else Some refusal.Verb
 
 -- the cause that a refusal tells
 cause_told : LineRefusal → Option LineRefusal
@@ -91,7 +92,8 @@ pub one_cause : (line : List Word) (r s : LineRefusal) → ParsesWords line (Err
 one_cause line r s is_r is_s = same_cause r s (sym (cause_is line r is_r) ∙ cause_is line s is_s)
 
 -- a line with a command is refused for want of memory alone
-pub accepted : (line : List Word) (c : Command) (r : LineRefusal) → ParsesWords line (Ok c) → ParsesWords line (Err r) → (error : AllocError) × (r ≡ refusal.Memory error)
+pub accepted : (line : List Word) (c : Command) (r : LineRefusal) → ParsesWords line (Ok c) → ParsesWords line (Err r)
+    → (error : AllocError) × (r ≡ refusal.Memory error)
 unfolding form_cause
 accepted line c r ok err = memory_alone r (sym (cause_is line r err) ∙ has_form line (form_of c) ok.0 ∙ none)
   where

@@ -33,7 +33,8 @@ pub data Form : Type 0 where
   event : Word → Form
   uncertain : Word → Word → Word → Word → Word → Option Rated → Option Rated → Form
   choice : Word → List (Word × Word) → List (Word × Word) → Form
-  require : Word → Word → Word → Word → Word → Option Priced → Option Priced → List (Word × Word) → Form
+  require : Word → Word → Word → Word → Word → Option Priced → Option Priced → List (Word × Word)
+      → Form
   drop : Word → Form
   bound : Word → Side → Word → Form
   price : Word → Side → Option Priced → Form
@@ -105,17 +106,22 @@ abbrev pub words_of : Form → List Word
 words_of (event n) = codes "event" ∷ n ∷ []
 words_of (uncertain n start end lo hi lower upper) =
     codes "uncertain" ∷ n ∷ start ∷ end ∷ lo ∷ hi ∷ rate_words Lower lower ++ rate_words Upper upper
-words_of (choice n alternatives guard) = codes "choice" ∷ n ∷ pair_words alternatives ++ guard_words guard
+words_of (choice n alternatives guard) =
+    codes "choice" ∷ n ∷ pair_words alternatives ++ guard_words guard
 words_of (require n from to lo hi lower upper guard) =
-    codes "require" ∷ n ∷ from ∷ to ∷ lo ∷ hi ∷ price_words Lower lower ++ price_words Upper upper ++ guard_words guard
+    codes "require" ∷ n ∷ from ∷ to ∷ lo ∷ hi
+    ∷ price_words Lower lower ++ price_words Upper upper ++ guard_words guard
 words_of (drop n) = codes "drop" ∷ n ∷ []
 words_of (bound n side b) = codes "bound" ∷ n ∷ side_word side ∷ b ∷ []
-words_of (price n side p) = codes "price" ∷ codes "require" ∷ n ∷ side_word side ∷ set_words priced_words p
-words_of (rate n side r) = codes "price" ∷ codes "uncertain" ∷ n ∷ side_word side ∷ set_words rated_words r
+words_of (price n side p) =
+    codes "price" ∷ codes "require" ∷ n ∷ side_word side ∷ set_words priced_words p
+words_of (rate n side r) =
+    codes "price" ∷ codes "uncertain" ∷ n ∷ side_word side ∷ set_words rated_words r
 words_of (range n lo hi) = codes "range" ∷ n ∷ lo ∷ hi ∷ []
 words_of (prefer c a cost) = codes "prefer" ∷ c ∷ a ∷ cost ∷ []
 words_of (deny v literals) = codes "deny" ∷ v ∷ pair_words literals
-words_of (cap v kind n side units) = codes "cap" ∷ v ∷ kind_word kind ∷ n ∷ side_word side ∷ units ∷ []
+words_of (cap v kind n side units) =
+    codes "cap" ∷ v ∷ kind_word kind ∷ n ∷ side_word side ∷ units ∷ []
 words_of (withdraw v) = codes "withdraw" ∷ v ∷ []
 words_of show = codes "show" ∷ []
 words_of propose = codes "propose" ∷ []
@@ -132,7 +138,8 @@ abbrev pub followers : Side → List Word
 followers Lower = codes "upper" ∷ codes "when" ∷ []
 followers Upper = codes "when" ∷ []
 
--- the words that aren't MAX behind a RATE: `past`, where it has no second price, and those that begin what may follow
+-- the words that aren't MAX behind a RATE: `past`, where it has no second price, and those that begin what may
+-- follow
 abbrev pub not_max : Option Past → List Word → List Word
 not_max None others = codes "past" ∷ others
 not_max (Some second) others = others

@@ -1,6 +1,6 @@
 -- The kinds of things in code and in forms.
-use Rattle.uhura_line.specs.declared.parsing.kind.ItemKind.{ItemKind}
-use Rattle.uhura_line.specs.declared.parsing.kind.ItemKind.TheVariants as code
+use Rattle.uhura_line.specs.declared.part.item.ItemKind.{ItemKind}
+use Rattle.uhura_line.specs.declared.part.item.ItemKind.TheVariants as code
 use Rattle.uhura_line.specs.Form.{Kind, requirement, duration}
 
 -- the kind in a form that a kind in code says

@@ -1,7 +1,7 @@
 -- Pairs of names as far as they are read.
 use Rattle.std.specs.Prelude.{◌≡◌, true, false, List, Option, Some}
-use Rattle.uhura_line.specs.declared.parsing.pairs.Pairs.{Pairs}
-use Rattle.uhura_line.specs.declared.parsing.pairs.Pairs.TheVariants as code
+use Rattle.uhura_line.specs.declared.part.pairs.Pairs.{Pairs}
+use Rattle.uhura_line.specs.declared.part.pairs.Pairs.TheVariants as code
 use Rattle.uhura_line.specs.Form.{Word, Priced}
 use Rattle.uhura_line.specs.Reads.{are_names}
 use Rattle.uhura_line.specs.Reader.{pairs_of, guard_of, terms_in}
@@ -25,7 +25,7 @@ pub record ReadsGuard (words : List Word) (read : Pairs) : Type 0 where
   pub holds : HoldsPairs read pairs
 
 -- the words are the prices of both sides and a guard, whose pairs were read
-pub record ReadsTerms (words : List Word) (lower upper : Option Priced) (read : Pairs) : Type 0 where
+pub record ReadsTerms (all : List Word) (lower upper : Option Priced) (read : Pairs) : Type 0 where
   pub pairs : List (Word × Word)
-  pub reads : terms_in words ≡ Some (lower, upper, pairs)
+  pub reads : terms_in all ≡ Some (lower, upper, pairs)
   pub holds : HoldsPairs read pairs

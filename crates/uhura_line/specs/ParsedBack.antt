@@ -7,4 +7,5 @@ use Rattle.uhura_line.specs.declared.refusal.LineRefusal.TheVariants.{Memory}
 
 -- the command was given, or memory ran out
 abbrev pub IsGiven : Command → Result (Option Command) LineRefusal → Type 0
-IsGiven c result = (result ≡ Ok (Some c)) ⊎ ((error : AllocError) × (result ≡ Err (Memory error)))
+IsGiven c result =
+    (result ≡ Ok (Some c)) ⊎ ((error : AllocError) × (result ≡ Err (Memory error)))

@@ -1,5 +1,5 @@
 -- The form that words have, as it is read from them. `law` says that it is the form of the grammar.
-use Rattle.std.specs.Prelude.{ℕ, Bool, true, false, if◌then◌else◌, List, [], ◌∷◌, Option, Some, None, option_map, bytes_eq, codes}
+use Rattle.std.specs.Prelude.{Bool, true, false, if◌then◌else◌, List, [], ◌∷◌, Option, Some, None, option_map, bytes_eq, codes}
 use Rattle.std.specs.List.{list_any}
 use Rattle.std.specs.Option.{option_and_then}
 use Rattle.uhura_plan.specs.declared.key.Side.{Side}
@@ -41,12 +41,14 @@ units_and_price (units ∷ next ∷ more) = Some (Some record { units = units; p
 
 -- the second price, where the words begin with `past`
 abbrev pub past_part : List Word → Option (Option Past × List Word)
-past_part words = if begins_with (codes "past") words then units_and_price (behind words) else Some (None, words)
+past_part words =
+    if begins_with (codes "past") words then units_and_price (behind words) else Some (None, words)
 
 -- RATE
 abbrev pub rated_part : List Word → Option (Rated × List Word)
 rated_part [] = None
-rated_part (first ∷ more) = past_part more >>= λ second. Some (record { first = first; second = second.0 }, second.1)
+rated_part (first ∷ more) = past_part more >>= λ second.
+    Some (record { first = first; second = second.0 }, second.1)
 
 -- the next word is one of these
 abbrev pub begins_with_one : List Word → List Word → Bool
@@ -67,9 +69,12 @@ priced_part others words = rated_part words >>= λ r.
     Some (record { rate = r.0; most = (most_part others r.1).0 }, (most_part others r.1).1)
 
 -- what a side has, where the words begin with it
-abbrev pub side_part : {A : Type 0} → (List Word → Option (A × List Word)) → Side → List Word → Option (Option A × List Word)
+abbrev pub side_part : {A : Type 0} → (List Word → Option (A × List Word)) → Side → List Word
+    → Option (Option A × List Word)
 side_part part side words =
-    if begins_with (side_word side) words then (part (behind words) >>= λ found. Some (Some found.0, found.1)) else Some (None, words)
+    if begins_with (side_word side) words then
+    (part (behind words) >>= λ found. Some (Some found.0, found.1))
+    else Some (None, words)
 
 abbrev pub rate_part : Side → List Word → Option (Option Rated × List Word)
 rate_part side words = side_part rated_part side words
@@ -79,11 +84,14 @@ price_part side words = side_part (priced_part (followers side)) side words
 
 -- both RATEs of a duration, and nothing behind them
 abbrev pub rates_in : List Word → Option (Option Rated × Option Rated)
-rates_in words = rate_part Lower words >>= λ lower. rate_part Upper lower.1 >>= λ upper. ended (lower.0, upper.0) upper.1
+rates_in words = rate_part Lower words >>= λ lower. rate_part Upper lower.1 >>= λ upper.
+    ended (lower.0, upper.0) upper.1
 
 -- what is set, and nothing behind it, or none where that is `-`
-abbrev pub set_in : {A : Type 0} → (A → Bool) → (List Word → Option (A × List Word)) → List Word → Option (Option A)
-set_in is_dash part words = part words >>= λ found. ended (if is_dash found.0 then None else Some found.0) found.1
+abbrev pub set_in : {A : Type 0} → (A → Bool) → (List Word → Option (A × List Word)) → List Word
+    → Option (Option A)
+set_in is_dash part words = part words >>= λ found.
+    ended (if is_dash found.0 then None else Some found.0) found.1
 
 -- the pairs that words are, one behind the other, where none is left over
 abbrev pub pairs_of : List Word → Option (List (Word × Word))
@@ -110,7 +118,8 @@ alternatives_of (a ∷ b ∷ more) =
 
 abbrev pub side_in : Word → Option Side
 side_in word =
-    if bytes_eq word (codes "lower") then Some Lower else if bytes_eq word (codes "upper") then Some Upper else None
+    if bytes_eq word (codes "lower") then Some Lower
+    else if bytes_eq word (codes "upper") then Some Upper else None
 
 abbrev pub kind_in : Word → Option Kind
 kind_in word =
@@ -145,7 +154,8 @@ named_in form [] = None
 named_in form (name ∷ more) = ended (form name) more
 
 abbrev pub uncertain_in : List Word → Option Form
-uncertain_in words = next_five words >>= λ w. rates_in w.5 >>= λ r. Some (uncertain w.0 w.1 w.2 w.3 w.4 r.0 r.1)
+uncertain_in words = next_five words >>= λ w. rates_in w.5 >>= λ r.
+    Some (uncertain w.0 w.1 w.2 w.3 w.4 r.0 r.1)
 
 -- no alternative begins here
 abbrev pub is_no_alternative : List Word → Bool
@@ -161,22 +171,26 @@ choice_in (name ∷ more) =
 -- the prices of both sides of a requirement and its guard
 abbrev pub terms_in : List Word → Option (Option Priced × Option Priced × List (Word × Word))
 terms_in words =
-    price_part Lower words >>= λ lower. price_part Upper lower.1 >>= λ upper. guard_of upper.1 >>= λ guard.
-    Some (lower.0, upper.0, guard)
+    price_part Lower words >>= λ lower. price_part Upper lower.1 >>= λ upper.
+    guard_of upper.1 >>= λ guard. Some (lower.0, upper.0, guard)
 
 abbrev pub require_in : List Word → Option Form
-require_in words = next_five words >>= λ w. terms_in w.5 >>= λ t. Some (require w.0 w.1 w.2 w.3 w.4 t.0 t.1 t.2)
+require_in words = next_five words >>= λ w. terms_in w.5 >>= λ t.
+    Some (require w.0 w.1 w.2 w.3 w.4 t.0 t.1 t.2)
 
 abbrev pub bound_in : List Word → Option Form
 bound_in words = next_three words >>= λ w. side_in w.1 >>= λ side. ended (bound w.0 side w.2) w.3
 
 -- the price that is set on a side of a requirement, or of a duration
 abbrev pub set_of_kind : Kind → Word → Side → List Word → Option Form
-set_of_kind requirement name side words = set_in is_dash_price (priced_part []) words >>= λ p. Some (price name side p)
-set_of_kind duration name side words = set_in is_dash_rate rated_part words >>= λ r. Some (rate name side r)
+set_of_kind requirement name side words = set_in is_dash_price (priced_part []) words >>= λ p.
+    Some (price name side p)
+set_of_kind duration name side words = set_in is_dash_rate rated_part words >>= λ r.
+    Some (rate name side r)
 
 abbrev pub price_in : List Word → Option Form
-price_in words = next_three words >>= λ w. kind_in w.0 >>= λ kind. side_in w.2 >>= λ side. set_of_kind kind w.1 side w.3
+price_in words = next_three words >>= λ w. kind_in w.0 >>= λ kind. side_in w.2 >>= λ side.
+    set_of_kind kind w.1 side w.3
 
 abbrev pub range_in : List Word → Option Form
 range_in words = next_three words >>= λ w. ended (range w.0 w.1 w.2) w.3
@@ -190,4 +204,5 @@ deny_in (name ∷ []) = None
 deny_in (name ∷ word ∷ more) = pairs_of (word ∷ more) >>= λ literals. Some (deny name literals)
 
 abbrev pub cap_in : List Word → Option Form
-cap_in words = next_five words >>= λ w. kind_in w.1 >>= λ kind. side_in w.3 >>= λ side. ended (cap w.0 kind w.2 side w.4) w.5
+cap_in words = next_five words >>= λ w. kind_in w.1 >>= λ kind. side_in w.3 >>= λ side.
+    ended (cap w.0 kind w.2 side w.4) w.5

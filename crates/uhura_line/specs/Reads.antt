@@ -1,5 +1,5 @@
 -- The form of a command, and the limits that its numbers keep.
-use Rattle.std.specs.Prelude.{ℕ, ◌+◌, ℤ, pos, negsuc, int_le, unsigned_abs, Bool, true, false, ◌&&◌, ◌||◌, IsTrue, List, map, None, Some, Option, option_map, bytes_eq, codes}
+use Rattle.std.specs.Prelude.{◌≡◌, ℕ, ◌+◌, ℤ, pos, negsuc, int_le, unsigned_abs, Bool, true, false, ◌&&◌, ◌||◌, IsTrue, List, map, None, Some, Option, option_map, bytes_eq, codes}
 use Rattle.std.specs.List.{list_all}
 use Rattle.std.specs.Option.{option_map_or}
 use Rattle.uhura_text.specs.Number.{number_of, spelling}
@@ -49,10 +49,12 @@ name_of (item.Uncertain n) = n
 abbrev pub form_of : Command → Form
 form_of (command.Event n) = event n
 form_of (command.Uncertain n start end lo hi lower upper) =
-    uncertain n start end (spelling lo) (spelling hi) (option_map rated_of lower) (option_map rated_of upper)
+    uncertain n start end (spelling lo) (spelling hi)
+    (option_map rated_of lower) (option_map rated_of upper)
 form_of (command.Choice n alternatives guard) = choice n (alternative_pairs alternatives) guard
 form_of (command.Require n from to lower upper guard) =
-    require n from to (bound_word lower.bound) (bound_word upper.bound) (option_map priced_of lower.price) (option_map priced_of upper.price) guard
+    require n from to (bound_word lower.bound) (bound_word upper.bound)
+    (option_map priced_of lower.price) (option_map priced_of upper.price) guard
 form_of (command.Drop n) = drop n
 form_of (command.Bound n side b) = bound n side (bound_word b)
 form_of (command.Price n side p) = price n side (option_map priced_of p)
@@ -110,11 +112,23 @@ is_rated r = is_first r.first && if_there (is_past r.first) r.second
 abbrev pub is_priced : Priced → Bool
 is_priced p = is_rated p.rate && if_there is_amount p.most
 
+-- the second word of each pair is a cost, and the first a name
+abbrev pub are_costs : List (Word × Word) → Bool
+are_costs pairs = list_all (λ a. is_amount a.1) pairs
+
+abbrev pub begin_with_names : List (Word × Word) → Bool
+begin_with_names pairs = list_all (λ a. is_name a.0) pairs
+
+-- what words are read as: the value that is written so, where they pass the test of their place
+abbrev pub StandsFor : {W V : Type 0} → (W → Bool) → (V → W) → W → Option V → Type 0
+StandsFor test written words None = test words ≡ false
+StandsFor test written words (Some value) = (words ≡ written value) × (test words ≡ true)
+
 -- each word at a number's place is a number within the limits of that place
 abbrev pub has_numbers : Form → Bool
 has_numbers (uncertain n start end lo hi lower upper) =
     is_amount lo && is_amount hi && if_there is_rated lower && if_there is_rated upper
-has_numbers (choice n alternatives guard) = list_all (λ a. is_amount a.1) alternatives
+has_numbers (choice n alternatives guard) = are_costs alternatives
 has_numbers (require n from to lo hi lower upper guard) =
     is_bound lo && is_bound hi && if_there is_priced lower && if_there is_priced upper
 has_numbers (bound n side b) = is_bound b
@@ -133,8 +147,10 @@ are_names pairs = list_all (λ pair. is_name pair.0 && is_name pair.1) pairs
 abbrev pub has_names : Form → Bool
 has_names (event n) = is_name n
 has_names (uncertain n start end lo hi lower upper) = is_name n && is_name start && is_name end
-has_names (choice n alternatives guard) = is_name n && list_all (λ a. is_name a.0) alternatives && are_names guard
-has_names (require n from to lo hi lower upper guard) = is_name n && is_name from && is_name to && are_names guard
+has_names (choice n alternatives guard) =
+    is_name n && begin_with_names alternatives && are_names guard
+has_names (require n from to lo hi lower upper guard) =
+    is_name n && is_name from && is_name to && are_names guard
 has_names (drop n) = is_name n
 has_names (bound n side b) = is_name n
 has_names (price n side p) = is_name n
@@ -146,7 +162,7 @@ has_names (cap v kind n side units) = is_name v && is_name n
 has_names (withdraw v) = is_name v
 has_names form = true
 
--- a command that a line can give: a choice has an alternative, a denial a literal, and its names and numbers are such
+-- a command that a line can give: a choice has an alternative, a denial a literal, and names and numbers are such
 pub record IsCommand (c : Command) : Type 0 where
   pub taken : IsTaken (form_of c)
   pub names : IsTrue (has_names (form_of c))

@@ -1,7 +1,7 @@
 -- The verbs: their words, and the form of the words behind each.
 use Rattle.std.specs.Prelude.{if◌then◌else◌, List, [], ◌∷◌, Option, Some, None, bytes_eq, codes}
-use Rattle.uhura_line.specs.declared.parsing.verb.Verb.{Verb}
-use Rattle.uhura_line.specs.declared.parsing.verb.Verb.TheVariants as code
+use Rattle.uhura_line.specs.declared.verb.Verb.{Verb}
+use Rattle.uhura_line.specs.declared.verb.Verb.TheVariants as code
 use Rattle.uhura_line.specs.Form.{Word, Form, event, drop, withdraw, show, propose, prove}
 use Rattle.uhura_line.specs.Reader.{◌>>=◌, bare_in, named_in, uncertain_in, choice_in, require_in, bound_in, price_in, range_in, prefer_in, deny_in, cap_in}
 

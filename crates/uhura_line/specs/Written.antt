@@ -19,6 +19,14 @@ abbrev pub joined : List Word → List ℕ
 joined [] = []
 joined (word ∷ more) = word ++ spaced more
 
+-- a line after a writer has put words behind it, each behind a space
+abbrev pub Appends : List ℕ → List Word → List ℕ → Type 0
+Appends line words longer = longer ≡ line ++ spaced words
+
+-- a line after a writer has put words behind it that begin a line
+abbrev pub Writes : List ℕ → List Word → List ℕ → Type 0
+Writes line words longer = longer ≡ line ++ joined words
+
 -- the line is read as these words: it holds no other byte, and is no comment
 pub record ReadsAs (line : List ℕ) (ws : List Word) : Type 0 where
   pub words_are : words line ≡ ws

@@ -5,13 +5,13 @@ mod command;
 pub mod law;
 mod literals;
 mod parsing;
+mod part;
 mod refusal;
-#[cfg(test)]
-mod tests;
+mod verb;
 mod write;
 
 pub use command::{Command, ItemName};
 pub use literals::Literals;
-pub use parsing::parse;
+pub use parsing::{LINE_BYTES, parse};
 pub use refusal::LineRefusal;
 pub use write::write_command;

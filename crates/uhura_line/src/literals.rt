@@ -26,13 +26,6 @@ impl Literals {
         Literals { pairs }
     }
 
-    /// Gives the list back.
-    pub fn into_vec(self) -> Vec<(Name, Name)>
-        ensures { result.items ≡ self }
-    {
-        self.pairs
-    }
-
     /// The pairs as a slice.
     pub fn as_slice(&self) -> &[(Name, Name)]
         ensures { result.now ≡ self.now }

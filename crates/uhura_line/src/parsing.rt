@@ -2,38 +2,17 @@
 ghost use Rattle.std.specs.Prelude.{◌≡◌};
 ghost use Rattle.uhura_line.specs.Parses.{Parses};
 
-mod ahead;
-mod cap;
-mod choice;
-mod costed;
-mod count;
-mod deny;
-mod dispatch;
-mod guard;
-mod kind;
-mod pairs;
-mod places;
-mod price;
-mod priced;
-mod rates;
-mod require;
-mod several;
-mod sides;
-mod single;
-mod uncertain;
-mod values;
-mod verb;
-
+use crate::verb::read_command;
 use crate::{Command, LineRefusal};
-use dispatch::command;
 use std::alloc::Global;
 use uhura_text::{is_quiet, words};
 
 /// The most bytes of a line, without its newline.
-const LINE_BYTES: usize = 4096;
+pub const LINE_BYTES: usize = 4096;
 
-/// The command that a line gives, without its newline, or `None` for a blank line and for a comment. Of several causes
-/// the refusal is the first of `LineRefusal`; memory is taken for the pairs of a choice, a guard and a denial alone.
+/// The command that a line gives, without its newline, or `None` for a blank line and for a comment. Of several
+/// causes the refusal is the first of `LineRefusal`; memory is taken for the pairs of a choice, a guard and a denial
+/// alone.
 #[tactic(auto, using(crate::proofs::LineLemmas::lines))]
 pub fn parse(alloc: Global, line: &[u8]) -> Result<Option<Command>, LineRefusal>
     ensures { Parses line.now result }
@@ -45,7 +24,7 @@ pub fn parse(alloc: Global, line: &[u8]) -> Result<Option<Command>, LineRefusal>
         return Ok(None);
     }
     match words(line) {
-        Ok(words) => match command(alloc, words) {
+        Ok(words) => match read_command(alloc, words) {
             Ok(command) => Ok(Some(command)),
             Err(refusal) => Err(refusal),
         },

@@ -29,8 +29,8 @@ by_nodes places nodes end u f inside =
     (λ node _. sum_below-times places (f node) (λ place. cond (eqb (end place) node) (u place) 0)) in
     spread ∙ turned ∙ gathered
 
--- where at each node as many units enter as leave, they sum to the same with what is given to the nodes that they enter
--- as with what is given to those that they leave
+-- where at each node as many units enter as leave, they sum to the same with what is given to the nodes that they
+-- enter as with what is given to those that they leave
 pub cancel : (places : ℕ) (to from u : ℕ → ℕ) →
     ((node : ℕ) → sum_below places (λ place. cond (eqb (to place) node) (u place) 0) ≡ sum_below places (λ place. cond (eqb (from place) node) (u place) 0)) →
     (f : ℕ → ℕ) → sum_below places (λ place. u place * f (to place)) ≡ sum_below places (λ place. u place * f (from place))

@@ -12,9 +12,9 @@ use Rattle.uhura_net.specs.declared.place.Place.{Place}
 use Rattle.uhura_net.specs.Edges.{Edges, no_edge, edge_at}
 use Rattle.uhura_net.specs.Walk.{Leads, IsClosedWalk, bounds_of}
 use Rattle.uhura_net.specs.Sums.{sum_below, int_sum_below}
-use Rattle.uhura_net.specs.Circulation.{Units, edges_of, units_of, units_in, units_out, IsBalanced, weighed, value_of}
+use Rattle.uhura_net.specs.Circulation.{Units, edges_of, units_of, units_entering, units_leaving, IsBalanced, weighed_sum, value_of}
 use Rattle.uhura_net.specs.Residual.{residual_edge, residual_walk, IsResidualCycle, HasRoom, CanMove, place_at, IsMoved, IsPushed}
-use Rattle.uhura_net.specs.Net.{Carried, IsNetEdge, IsNet, net_value}
+use Rattle.uhura_net.specs.Net.{NetState, IsNetEdge, IsNet, net_value}
 use Rattle.uhura_net.proofs.Scaled.{scaled_parts}
 use Rattle.uhura_net.proofs.Pushing.{IsOdd, weights_of, pushed_weight, none_cons}
 
@@ -60,7 +60,7 @@ capacity_most None sound = omega arith
 capacity_most (Some edge) sound = sound.capacity
 
 -- so the steps of a cycle can be made
-pub cycle_can_move : (net : Carried) (places : List Place) (backward : List Bool) (amount : ℕ) → IsNet net →
+pub cycle_can_move : (net : NetState) (places : List Place) (backward : List Bool) (amount : ℕ) → IsNet net →
     IsResidualCycle (edges_of net.edges) (units_of net.units) places backward amount → CanMove places backward amount net.units
 cycle_can_move net places backward amount is_net cycle step inside =
     let at : ℕ = place_at places step in
@@ -109,7 +109,7 @@ balance_at units false false = omega (arith, ints, scaled_parts units (pos 0))
 
 -- the units that enter a node less those that leave it are a weighed sum
 balance_weighed : (places : ℕ) (edges : Edges) (units : Units) (node : ℕ) →
-    weighed places edges units (λ edge. is_node node edge.to -ℤ is_node node edge.from) ≡ pos (units_in places edges units node) -ℤ pos (units_out places edges units node)
+    weighed_sum places edges units (λ edge. is_node node edge.to -ℤ is_node node edge.from) ≡ pos (units_entering places edges units node) -ℤ pos (units_leaving places edges units node)
 unfolding sum_below int_sum_below is_node
 balance_weighed zero edges units node = refl
 balance_weighed (suc n) edges units node =
@@ -147,12 +147,12 @@ pushed_value n edges before after places backward amount inside cycle pushed =
     omega (arith, ints, moved, bounds)
 
 -- what a push leaves of a net
-pub record IsNetPushed (before : Carried) (places : List Place) (backward : List Bool) (amount : ℕ) (after : Carried) : Type 0 where
+pub record IsNetPushed (before : NetState) (places : List Place) (backward : List Bool) (amount : ℕ) (after : NetState) : Type 0 where
   pub sound : IsNet after
   pub value : net_value after +ℤ (pos amount *ℤ bounds_of (residual_walk (edges_of before.edges) (units_of before.units) places backward)) ≡ net_value before
 
 -- where its units were pushed around a cycle
-IsNetPushed-around : (net : Carried) (places : List Place) (backward : List Bool) (amount : ℕ) (units : List ℕ) (pushes : ℕ) → IsNet net →
+IsNetPushed-around : (net : NetState) (places : List Place) (backward : List Bool) (amount : ℕ) (units : List ℕ) (pushes : ℕ) → IsNet net →
     IsResidualCycle (edges_of net.edges) (units_of net.units) places backward amount → IsPushed places backward amount (units_of net.units) (units_of units) →
     length units ≡ length net.units → IsNetPushed net places backward amount (record { edges = net.edges; units = units; pushes = pushes })
 unfolding net_value
@@ -170,15 +170,25 @@ IsNetPushed-around net places backward amount units pushes is_net cycle pushed c
 }
 
 -- the same where the old units are read, and the new ones written, as equal lists
-pub IsNetPushed-written : (before net : Carried) (places : List Place) (backward : List Bool) (amount : ℕ) (old new written : List ℕ) (pushes : ℕ) → net ≡ before →
+pub IsNetPushed-written : (before net : NetState) (places : List Place) (backward : List Bool) (amount : ℕ) (old new written : List ℕ) (pushes : ℕ) → net ≡ before →
     old ≡ net.units → written ≡ new → IsNet net → IsResidualCycle (edges_of before.edges) (units_of before.units) places backward amount →
     IsPushed places backward amount (units_of old) (units_of new) → length new ≡ length old →
     IsNetPushed before places backward amount (record { edges = net.edges; units = written; pushes = pushes })
 IsNetPushed-written before net places backward amount old new written pushes same old_is new_is is_net cycle pushed counts =
-    let cycles : Carried → Type 0 = λ n. IsResidualCycle (edges_of n.edges) (units_of n.units) places backward amount in
+    let cycles : NetState → Type 0 = λ n. IsResidualCycle (edges_of n.edges) (units_of n.units) places backward amount in
     let moves : List ℕ → Type 0 = λ us. IsPushed places backward amount (units_of us) (units_of new) in
     let leaves : List ℕ → Type 0 = λ us. IsNetPushed net places backward amount (record { edges = net.edges; units = us; pushes = pushes }) in
-    let begins : Carried → Type 0 = λ n. IsNetPushed n places backward amount (record { edges = net.edges; units = written; pushes = pushes }) in
+    let begins : NetState → Type 0 = λ n. IsNetPushed n places backward amount (record { edges = net.edges; units = written; pushes = pushes }) in
     subst begins same
     (subst leaves (sym new_is)
     (IsNetPushed-around net places backward amount new pushes is_net (subst cycles (sym same) cycle) (subst moves old_is pushed) (counts ∙ ap length old_is)))
+
+-- so the value after it, where the value and the bounds along the walk were computed
+pub value_pushed : (before net after : NetState) (edges : List (Option Edge)) (places : List Place) (backward : List Bool) (amount : ℕ) (value bounds : ℤ) → net ≡ before →
+    edges ≡ net.edges → ((units : Units) → bounds ≡ bounds_of (residual_walk (edges_of edges) units places backward)) → value ≡ net_value net →
+    IsNetPushed before places backward amount after → net_value after ≡ value -ℤ (pos amount *ℤ bounds)
+value_pushed before net after edges places backward amount value bounds same edges_is is worth pushed =
+    let along : List (Option Edge) → ℤ = λ es. bounds_of (residual_walk (edges_of es) (units_of before.units) places backward) in
+    let bounds_is : bounds ≡ along before.edges = is (units_of before.units) ∙ ap along (edges_is ∙ ap (λ (n : NetState). n.edges) same) in
+    let moved = ap (λ z. pos amount *ℤ z) bounds_is in
+    omega (arith, ints, pushed.value, moved, worth, ap net_value same)

@@ -7,7 +7,7 @@ use borrow.Author.Differences.{up, down}
 use Rattle.uhura_net.specs.declared.edge.Edge.{Edge}
 use Rattle.uhura_net.specs.Edges.{Edges, edge_at}
 use Rattle.uhura_net.specs.Sums.{sum_below, int_sum_below}
-use Rattle.uhura_net.specs.Circulation.{Units, IsBalanced, IsCirculation, weighed, value_of, KeepsWithin}
+use Rattle.uhura_net.specs.Circulation.{Units, IsBalanced, IsCirculation, weighed_sum, value_of, KeepsWithin}
 use Rattle.uhura_net.proofs.Scaled.{scaled_parts, scaled-plus, scaled-twice, scaled-le, scaled-zero, scaled-neg}
 use Rattle.uhura_net.proofs.Cancelling.{cancel}
 use Rattle.uhura_net.proofs.Sums.{sum_below-le, int_sum_below-naturals}
@@ -21,7 +21,7 @@ weighed_parts (suc n) u z = omega (arith, ints, weighed_parts n u z, scaled_part
 
 -- balanced units cancel times too
 pub cancel_times : (places : ℕ) (edges : Edges) (units : Units) (times : ℕ → ℤ) → IsBalanced places edges units →
-    weighed places edges units (λ edge. times edge.to) ≡ weighed places edges units (λ edge. times edge.from)
+    weighed_sum places edges units (λ edge. times edge.to) ≡ weighed_sum places edges units (λ edge. times edge.from)
 cancel_times places edges units times balanced =
     let to : ℕ → ℕ = λ place. (edge_at edges place).to in
     let from : ℕ → ℕ = λ place. (edge_at edges place).from in
@@ -49,15 +49,15 @@ kept_units (suc n) k a b bound allowance keeps =
 -- and those of the first places
 kept_sum : (places k : ℕ) (edges : Edges) (units : Units) (times : ℕ → ℤ) (allowance : ℕ → ℤ) →
     ((place : ℕ) → place < places → 1 ≤ units place → KeepsWithin k times (allowance place) (edge_at edges place)) →
-    weighed places edges units (λ edge. times edge.to) ≤ℤ
-    (weighed places edges units (λ edge. times edge.from) +ℤ (pos k *ℤ weighed places edges units (λ edge. edge.bound)) +ℤ int_sum_below places (λ place. pos (units place) *ℤ allowance place))
+    weighed_sum places edges units (λ edge. times edge.to) ≤ℤ
+    (weighed_sum places edges units (λ edge. times edge.from) +ℤ (pos k *ℤ weighed_sum places edges units (λ edge. edge.bound)) +ℤ int_sum_below places (λ place. pos (units place) *ℤ allowance place))
 unfolding int_sum_below
 kept_sum zero k edges units times allowance keep = omega (arith, ints, scaled_parts k (pos 0))
 kept_sum (suc n) k edges units times allowance keep =
     let before = kept_sum n k edges units times allowance (λ place inside. keep place (omega arith)) in
     let edge : Edge = edge_at edges n in
     let last = kept_units (units n) k (times edge.to) (times edge.from) edge.bound (allowance n) (keep n (omega arith)) in
-    omega (arith, ints, before, last, scaled-plus k (weighed n edges units (λ edge. edge.bound)) (pos (units n) *ℤ edge.bound))
+    omega (arith, ints, before, last, scaled-plus k (weighed_sum n edges units (λ edge. edge.bound)) (pos (units n) *ℤ edge.bound))
 
 pub weak_duality : (places k : ℕ) (edges : Edges) (units : Units) (times : ℕ → ℤ) (allowance : ℕ → ℤ) → IsBalanced places edges units →
     ((place : ℕ) → place < places → 1 ≤ units place → KeepsWithin k times (allowance place) (edge_at edges place)) →
@@ -68,7 +68,7 @@ weak_duality places k edges units times allowance balanced keep =
       ints,
       cancel_times places edges units times balanced,
       kept_sum places k edges units times allowance keep,
-      scaled-neg k (weighed places edges units (λ edge. edge.bound)),
+      scaled-neg k (weighed_sum places edges units (λ edge. edge.bound)),
     )
 
 -- with allowances that are natural numbers

@@ -1,24 +1,22 @@
 -- A table and a net without an edge.
-use Rattle.std.proofs.Common.{◌≡◌, ℕ, zero, suc, List, get_or, length, replicate, Option, None, IfSome, refl, sym, ap, subst, ◌∙◌, Bool, true, false, cond, eqb, arith}
+use Rattle.std.proofs.Common.{◌≡◌, ℕ, zero, suc, ℤ, pos, List, get_or, length, replicate, Option, None, IfSome, refl, sym, ap, subst, ◌∙◌, Bool, true, false, cond, eqb, arith}
+use Rattle.std.specs.Prelude.{◌*ℤ◌}
+use Rattle.std.proofs.lemmas.Int.{ints}
 use Rattle.std.proofs.lemmas.List.{length-replicate}
+use Rattle.uhura_plan.proofs.Slots.{get_or-replicate_default}
 use Rattle.uhura_net.specs.declared.edge.Edge.{Edge}
 use Rattle.uhura_net.specs.declared.place.TheConstants.{PLACES}
 use Rattle.uhura_net.specs.Table.{IsTable, IsEdgeFor}
 use Rattle.uhura_net.specs.Edges.{Edges, edge_at}
-use Rattle.uhura_net.specs.Sums.{sum_below}
-use Rattle.uhura_net.specs.Circulation.{Units, edges_of, units_of, IsBalanced}
-use Rattle.uhura_net.specs.Net.{Carried, IsNetEdge, IsNet}
+use Rattle.uhura_net.specs.Sums.{sum_below, int_sum_below}
+use Rattle.uhura_net.specs.Circulation.{Units, edges_of, units_of, IsBalanced, weighed_sum}
+use Rattle.uhura_net.specs.Net.{NetState, IsNetEdge, IsNet, net_value, empty_net}
 use Rattle.uhura_net.proofs.Sums.{sum_below-same}
+use Rattle.uhura_net.proofs.Scaled.{scaled-zero}
 
--- copies of the default are the default everywhere
 cond_same : (b : Bool) (n : ℕ) → cond b n n ≡ n
 cond_same true n = refl
 cond_same false n = refl
-
-pub get_or-replicate_default : {X : Type 0} (n i : ℕ) (x : X) → get_or (replicate n x) i x ≡ x
-get_or-replicate_default zero i x = refl
-get_or-replicate_default (suc n) zero x = refl
-get_or-replicate_default (suc n) (suc i) x = get_or-replicate_default n i x
 
 pub IsTable-empty : (table : List (Option Edge)) → table ≡ replicate PLACES None → IsTable table
 IsTable-empty table empty = record {
@@ -54,7 +52,20 @@ IsNet-empty edges units no_edges no_units =
       };
     }
 
+-- nothing is worth nothing
+nothing_worth : (places : ℕ) (edges : Edges) (units : Units) (weight : Edge → ℤ) → ((place : ℕ) → units place ≡ 0) → weighed_sum places edges units weight ≡ pos 0
+unfolding int_sum_below
+nothing_worth zero edges units weight none = refl
+nothing_worth (suc places) edges units weight none =
+    let here = ap (λ u. pos u *ℤ weight (edge_at edges places)) (none places) in
+    omega (arith, ints, nothing_worth places edges units weight none, here, scaled-zero (weight (edge_at edges places)))
+
+pub value_empty : (edges : List (Option Edge)) (units : List ℕ) → units ≡ replicate PLACES 0 → net_value (record { edges = edges; units = units; pushes = 0 }) ≡ pos 0
+unfolding net_value
+value_empty edges units no_units =
+    let none : (place : ℕ) → get_or units place 0 ≡ 0 = λ place. ap (λ us. get_or us place 0) no_units ∙ get_or-replicate_default PLACES place 0 in
+    omega (arith, ints, nothing_worth PLACES (edges_of edges) (units_of units) (λ (e : Edge). e.bound) none)
+
 pub net-empty : (edges : List (Option Edge)) (units : List ℕ) → edges ≡ replicate PLACES None → units ≡ replicate PLACES 0 →
-    let empty : Carried = record { edges = replicate PLACES None; units = replicate PLACES 0; pushes = 0 } in
-    ◌≡◌ {A = Carried} (record { edges = edges; units = units; pushes = 0 }) empty
+    ◌≡◌ {A = NetState} (record { edges = edges; units = units; pushes = 0 }) empty_net
 net-empty edges units no_edges no_units = cc

@@ -1,4 +1,4 @@
--- Why the potentials of an optimal circulation meet each edge that isn't loose.
+-- Why the potentials of an optimal circulation keep each edge that isn't loose.
 use Rattle.std.proofs.Common.{◌≡◌, ℕ, zero, suc, ◌+◌, ◌*◌, ◌<◌, ◌≤◌, Bool, true, false, cond, eqb, ℤ, pos, ◌-ℤ◌, ◌≤ℤ◌, ◌<ℤ◌, Option, None, Some, unwrap_or, refl, ap, sym, subst, inl, inr, arith}
 use Rattle.std.proofs.lemmas.Int.{ints, by_lt_z}
 use Rattle.std.proofs.lemmas.Bool.{cases_lt, eqb-true}
@@ -6,7 +6,7 @@ use Rattle.std.proofs.Math.Nat.{mul-le-mul_left}
 use lib.Signed.{lt_z}
 use Rattle.uhura_net.specs.declared.edge.Edge.{Edge}
 use Rattle.uhura_net.specs.Place.{is_loose}
-use Rattle.uhura_net.specs.Edges.{Edges, no_edge, edge_at, Keeps, Meets}
+use Rattle.uhura_net.specs.Edges.{Edges, no_edge, edge_at, Keeps, AreKept}
 use Rattle.uhura_net.specs.Circulation.{Units, IsCirculation}
 use Rattle.uhura_net.specs.Optimal.{slack_of, IsOptimalAt, IsOptimal, firm_edges, loose_capacity, FirmOutweighLoose}
 use Rattle.uhura_net.proofs.Sums.{sum_below-le, sum_below-plus, sum_below-single}
@@ -67,12 +67,12 @@ brought edge false false (suc units) carried set within most kept enters =
     let more : suc units * set edge.from ≤ suc units * set edge.to = mul-le-mul_left (suc units) (kept refl (omega arith)) in
     omega arith
 
--- times that meet the firm edges keep the one at a firm place
+-- times that keep the firm edges keep the one at a firm place
 keeps_firm : (at : Option Edge) (loose : Bool) (times : ℕ → ℤ) → ((edge : Edge) → cond loose None at ≡ Some edge → Keeps times edge) → loose ≡ false →
     Keeps times (unwrap_or at no_edge)
-keeps_firm at true times meets firm = absurd (let no : ⊥ = cc in no)
-keeps_firm None false times meets firm = omega (arith, ints)
-keeps_firm (Some edge) false times meets firm = meets edge refl
+keeps_firm at true times kept firm = absurd (let no : ⊥ = cc in no)
+keeps_firm None false times kept firm = omega (arith, ints)
+keeps_firm (Some edge) false times kept firm = kept edge refl
 
 -- a firm edge is there, at a place that isn't loose
 pub firm_there : (at : Option Edge) (loose : Bool) (edge : Edge) → cond loose None at ≡ Some edge → (loose ≡ false) × (unwrap_or at no_edge ≡ edge)
@@ -82,14 +82,14 @@ firm_there at false edge is = (refl, ap (λ e. unwrap_or e no_edge) is)
 -- a firm edge whose bound the potentials passed would carry its capacity into the nodes where they are ahead of the
 -- times at least as far as at its end, and loose edges alone can carry units out
 none_passed : (places : ℕ) (edges : Edges) (units : Units) (potentials times : ℕ → ℤ) (at : ℕ) → IsCirculation places edges units → IsOptimal edges units potentials →
-    Meets (firm_edges edges) times → at < places → is_loose at ≡ false → slack_of potentials (edge_at edges at) <ℤ pos 0 →
+    AreKept (firm_edges edges) times → at < places → is_loose at ≡ false → slack_of potentials (edge_at edges at) <ℤ pos 0 →
     (edge_at edges at).capacity ≤ loose_capacity places edges
-none_passed places edges units potentials times at circulation optimal meets inside firm below =
+none_passed places edges units potentials times at circulation optimal kept inside firm below =
     let level : ℤ = ahead potentials times (edge_at edges at).to in
     let set : ℕ → ℕ = λ node. reaches level (ahead potentials times node) in
     let carried : ℕ = (edge_at edges at).capacity in
     let entering : set (edge_at edges at).from ≡ 0 = reaches-below level (ahead potentials times (edge_at edges at).from)
-    (ahead-lt (edge_at edges at) potentials times below (keeps_firm (edges at) (is_loose at) times (meets at) firm)) in
+    (ahead-lt (edge_at edges at) potentials times below (keeps_firm (edges at) (is_loose at) times (kept at) firm)) in
     let full : carried ≤ units at =
     elim (cases_lt (units at) carried) [
       | inl spared ↦ absurd (omega (arith, ints, (optimal at).spare spared))
@@ -104,7 +104,7 @@ none_passed places edges units potentials times at circulation optimal meets ins
     λ place _. brought (edge_at edges place) (is_loose place) (eqb at place) (units place) carried set (circulation.within place)
     (λ node. reaches-most level (ahead potentials times node))
     (λ stays some. reaches-le level (ahead potentials times (edge_at edges place).from) (ahead potentials times (edge_at edges place).to)
-    (ahead-le (edge_at edges place) (units place) potentials times (optimal place) (keeps_firm (edges place) (is_loose place) times (meets place) stays) some))
+    (ahead-le (edge_at edges place) (units place) potentials times (optimal place) (keeps_firm (edges place) (is_loose place) times (kept place) stays) some))
     (enters place) in
     let all = sum_below-le places (λ place. units place * set (edge_at edges place).from + cond (eqb at place) carried 0)
     (λ place. units place * set (edge_at edges place).to + cond (is_loose place) (edge_at edges place).capacity 0) into in
@@ -119,13 +119,13 @@ none_passed places edges units potentials times at circulation optimal meets ins
       cancel places (λ place. (edge_at edges place).to) (λ place. (edge_at edges place).from) units circulation.balanced set,
     )
 
-pub firm_are_met : (places : ℕ) (edges : Edges) (units : Units) (potentials times : ℕ → ℤ) → IsCirculation places edges units → IsOptimal edges units potentials →
-    FirmOutweighLoose places edges → Meets (firm_edges edges) times → Meets (firm_edges edges) potentials
-firm_are_met places edges units potentials times circulation optimal outweigh meets place edge is =
+pub firm_are_kept : (places : ℕ) (edges : Edges) (units : Units) (potentials times : ℕ → ℤ) → IsCirculation places edges units → IsOptimal edges units potentials →
+    FirmOutweighLoose places edges → AreKept (firm_edges edges) times → AreKept (firm_edges edges) potentials
+firm_are_kept places edges units potentials times circulation optimal outweigh kept place edge is =
     let there = firm_there (edges place) (is_loose place) edge is in
     by_lt_z (slack_of potentials edge) (pos 0)
     (λ below.
     let holds : Edge → Type 0 = λ e. slack_of potentials e <ℤ pos 0 in
-    let passed = none_passed places edges units potentials times place circulation optimal meets (outweigh place edge is).inside there.0 (subst holds (sym there.1) below) in
+    let passed = none_passed places edges units potentials times place circulation optimal kept (outweigh place edge is).inside there.0 (subst holds (sym there.1) below) in
     absurd (omega (arith, passed, (outweigh place edge is).more, ap (λ (e : Edge). e.capacity) there.1)))
     (λ above. omega (arith, ints))

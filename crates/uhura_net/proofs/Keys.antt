@@ -6,7 +6,8 @@ use Rattle.uhura_plan.specs.declared.key.Item.{Item}
 use Rattle.uhura_plan.specs.declared.key.Item.TheVariants.{Requirement, Uncertain}
 use Rattle.uhura_plan.specs.declared.key.EdgeKey.{EdgeKey}
 use Rattle.uhura_plan.specs.declared.key.EdgeKey.TheVariants.{Loose, Firm, Order, Steep}
-use Rattle.uhura_net.specs.declared.place.TheConstants.{PLACES, SLOTS, DURATIONS, FIRST_OF_DURATIONS, FIRST_STEEP}
+use Rattle.uhura_plan.specs.declared.limits.TheConstants.{REQUIREMENTS, UNCERTAINS}
+use Rattle.uhura_net.specs.declared.place.TheConstants.{PLACES, FIRST_OF_DURATIONS, FIRST_STEEP}
 use Rattle.uhura_net.specs.Place.{first_place, first_steep_place, IsPlacedItem, StandsAt}
 
 -- the edges of an item's sides stand in the first four rows of its table
@@ -18,7 +19,7 @@ in_row item (suc (suc (suc zero))) place placed small is = (Firm (record { item 
 in_row item (suc (suc (suc (suc row)))) place placed small is = absurd (omega arith)
 
 -- a duration's order edge in the fifth
-in_duration : (d row place : ℕ) → d < DURATIONS → row < 5 → FIRST_OF_DURATIONS + 5 * d + row ≡ place → (key : EdgeKey) × StandsAt place key
+in_duration : (d row place : ℕ) → d < UNCERTAINS → row < 5 → FIRST_OF_DURATIONS + 5 * d + row ≡ place → (key : EdgeKey) × StandsAt place key
 in_duration d row place placed small is =
     elim (cases_lt row 4) [
       | inl side ↦ in_row (Uncertain d) row place placed side is
@@ -39,12 +40,12 @@ in_table place below =
           in_duration ((place - FIRST_OF_DURATIONS) / 5) ((place - FIRST_OF_DURATIONS) % 5) place (omega arith) (omega arith) (omega arith)
     ]
 
-among_steep : (number place : ℕ) → number < 2 * SLOTS + 2 * DURATIONS → FIRST_STEEP + number ≡ place → (key : EdgeKey) × StandsAt place key
+among_steep : (number place : ℕ) → number < 2 * REQUIREMENTS + 2 * UNCERTAINS → FIRST_STEEP + number ≡ place → (key : EdgeKey) × StandsAt place key
 among_steep number place small is =
-    elim (cases_lt number (2 * SLOTS)) [
+    elim (cases_lt number (2 * REQUIREMENTS)) [
       | inl slot ↦ in_pair (Requirement (number / 2)) (number % 2) place (omega arith) (omega arith) (omega arith)
       | inr duration ↦
-          in_pair (Uncertain ((number - 2 * SLOTS) / 2)) ((number - 2 * SLOTS) % 2) place (omega arith) (omega arith) (omega arith)
+          in_pair (Uncertain ((number - 2 * REQUIREMENTS) / 2)) ((number - 2 * REQUIREMENTS) % 2) place (omega arith) (omega arith) (omega arith)
     ]
 
 pub key_at : (place : ℕ) → place < PLACES → (key : EdgeKey) × StandsAt place key

@@ -1,3 +1,4 @@
+mod Bounds
 mod Cancelling
 pub mod Clones
 mod Cycles
@@ -5,12 +6,14 @@ pub mod Duality
 mod Empty
 pub mod Firm
 pub mod Keys
-mod Loops
+mod Linking
+mod Listed
 mod Moves
 pub mod Outweighing
 pub mod Paying
-mod Prices
+mod Worths
 mod Pushing
+mod Relisting
 pub mod Rows
 pub mod Scaled
 mod Setting

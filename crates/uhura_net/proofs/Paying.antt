@@ -5,9 +5,9 @@ use Rattle.std.proofs.lemmas.Int.{ints}
 use Rattle.std.proofs.lemmas.Bool.{cases_lt}
 use Rattle.uhura_net.specs.declared.edge.Edge.{Edge}
 use Rattle.uhura_net.specs.Place.{is_loose}
-use Rattle.uhura_net.specs.Edges.{Edges, no_edge, edge_at, Meets}
+use Rattle.uhura_net.specs.Edges.{Edges, no_edge, edge_at, AreKept}
 use Rattle.uhura_net.specs.Sums.{sum_below, int_sum_below}
-use Rattle.uhura_net.specs.Circulation.{Units, IsCirculation, weighed, value_of}
+use Rattle.uhura_net.specs.Circulation.{Units, IsCirculation, weighed_sum, value_of}
 use Rattle.uhura_net.specs.Optimal.{slack_of, below_zero, excess_of, IsOptimalAt, IsOptimal, firm_edges, loose_excess}
 use Rattle.uhura_net.proofs.Scaled.{scaled_parts, scaled-plus, scaled-zero}
 use Rattle.uhura_net.proofs.Sums.{sum_below-same}
@@ -49,9 +49,9 @@ paid_edge edge units potentials within optimal =
 -- the same of the first places
 paid_sum : (places : ℕ) (edges : Edges) (units : Units) (potentials : ℕ → ℤ) → ((place : ℕ) → units place ≤ (edge_at edges place).capacity) →
     IsOptimal edges units potentials →
-    (weighed places edges units (λ edge. edge.bound) +ℤ weighed places edges units (λ edge. potentials edge.from))
+    (weighed_sum places edges units (λ edge. edge.bound) +ℤ weighed_sum places edges units (λ edge. potentials edge.from))
     +ℤ pos (sum_below places (λ place. (edge_at edges place).capacity * excess_of potentials (edge_at edges place)))
-    ≡ weighed places edges units (λ edge. potentials edge.to)
+    ≡ weighed_sum places edges units (λ edge. potentials edge.to)
 unfolding sum_below int_sum_below
 paid_sum zero edges units potentials within optimal = refl
 paid_sum (suc n) edges units potentials within optimal =
@@ -66,18 +66,18 @@ below_zero-none (negsuc n) above = absurd (omega (arith, ints))
 paid_by_loose : (at : Option Edge) (loose : Bool) (potentials : ℕ → ℤ) →
     ((edge : Edge) → cond loose None at ≡ Some edge → (potentials edge.to -ℤ potentials edge.from) ≤ℤ edge.bound) →
     (unwrap_or at no_edge).capacity * excess_of potentials (unwrap_or at no_edge) ≡ cond loose ((unwrap_or at no_edge).capacity * excess_of potentials (unwrap_or at no_edge)) 0
-paid_by_loose at true potentials meets = refl
-paid_by_loose None false potentials meets = omega arith
-paid_by_loose (Some edge) false potentials meets =
-    let none : excess_of potentials edge ≡ 0 = below_zero-none (slack_of potentials edge) (omega (arith, ints, meets edge refl)) in
+paid_by_loose at true potentials kept = refl
+paid_by_loose None false potentials kept = omega arith
+paid_by_loose (Some edge) false potentials kept =
+    let none : excess_of potentials edge ≡ 0 = below_zero-none (slack_of potentials edge) (omega (arith, ints, kept edge refl)) in
     let product : edge.capacity * excess_of potentials edge ≡ edge.capacity * 0 = ap (λ (n : ℕ). edge.capacity * n) none in
     omega (arith, product)
 
 pub optimal_value : (places : ℕ) (edges : Edges) (units : Units) (potentials : ℕ → ℤ) → IsCirculation places edges units → IsOptimal edges units potentials →
-    Meets (firm_edges edges) potentials → value_of places edges units ≡ pos (loose_excess places edges potentials)
-optimal_value places edges units potentials circulation optimal meets =
+    AreKept (firm_edges edges) potentials → value_of places edges units ≡ pos (loose_excess places edges potentials)
+optimal_value places edges units potentials circulation optimal kept =
     let loose : sum_below places (λ place. (edge_at edges place).capacity * excess_of potentials (edge_at edges place)) ≡ loose_excess places edges potentials =
     sum_below-same places (λ place. (edge_at edges place).capacity * excess_of potentials (edge_at edges place))
     (λ place. cond (is_loose place) ((edge_at edges place).capacity * excess_of potentials (edge_at edges place)) 0)
-    (λ place _. paid_by_loose (edges place) (is_loose place) potentials (meets place)) in
+    (λ place _. paid_by_loose (edges place) (is_loose place) potentials (kept place)) in
     omega (arith, ints, loose, paid_sum places edges units potentials circulation.within optimal, cancel_times places edges units potentials circulation.balanced)

@@ -10,7 +10,7 @@ use Rattle.uhura_net.specs.declared.edge.Edge.{Edge}
 use Rattle.uhura_net.specs.declared.place.Place.{Place}
 use Rattle.uhura_net.specs.Edges.{Edges, edge_at}
 use Rattle.uhura_net.specs.Sums.{int_sum_below}
-use Rattle.uhura_net.specs.Circulation.{Units, weighed}
+use Rattle.uhura_net.specs.Circulation.{Units, weighed_sum}
 use Rattle.uhura_net.specs.Residual.{residual_edge, residual_walk, is_same_place, place_at, IsMoved, IsPushed}
 use Rattle.uhura_net.proofs.Scaled.{scaled_parts, scaled-plus, scaled-neg}
 use Rattle.uhura_net.proofs.Sums.{int_sum_below-same}
@@ -28,13 +28,13 @@ weights_of weight (edge ∷ walk) = weight edge +ℤ weights_of weight walk
 
 -- a sum where the units of one place changed
 weighed_at : (n : ℕ) (edges : Edges) (before after : Units) (weight : Edge → ℤ) (at : ℕ) → at < n → ((place : ℕ) → place ≢ at → after place ≡ before place) →
-    weighed n edges after weight +ℤ (pos (before at) *ℤ weight (edge_at edges at)) ≡ weighed n edges before weight +ℤ (pos (after at) *ℤ weight (edge_at edges at))
+    weighed_sum n edges after weight +ℤ (pos (before at) *ℤ weight (edge_at edges at)) ≡ weighed_sum n edges before weight +ℤ (pos (after at) *ℤ weight (edge_at edges at))
 unfolding int_sum_below
 weighed_at zero edges before after weight at inside others = absurd (omega arith)
 weighed_at (suc n) edges before after weight at inside others =
     elim (cases_eq at n) [
       | inl last ↦
-          let rest : weighed n edges after weight ≡ weighed n edges before weight =
+          let rest : weighed_sum n edges after weight ≡ weighed_sum n edges before weight =
           int_sum_below-same n (λ place. pos (after place) *ℤ weight (edge_at edges place)) (λ place. pos (before place) *ℤ weight (edge_at edges place))
           (λ place earlier. ap (λ u. pos u *ℤ weight (edge_at edges place)) (others place (λ same. let no : ⊥ = omega arith in no))) in
           let now = ap (λ place. pos (after place) *ℤ weight (edge_at edges place)) last in
@@ -95,10 +95,10 @@ pushed_tail place places back backward amount before after once pushed = record 
 -- a push adds the weight of its walk, once for each unit
 pub pushed_weight : (n : ℕ) (edges : Edges) (seen : Units) (weight : Edge → ℤ) (amount : ℕ) (places : List Place) (backward : List Bool) (before after : Units) → IsOdd weight →
     length backward ≡ length places → All (λ (place : Place). place.0 < n) places → IsDistinct is_same_place places → IsPushed places backward amount before after →
-    weighed n edges after weight ≡ weighed n edges before weight +ℤ (pos amount *ℤ weights_of weight (residual_walk edges seen places backward))
+    weighed_sum n edges after weight ≡ weighed_sum n edges before weight +ℤ (pos amount *ℤ weights_of weight (residual_walk edges seen places backward))
 unfolding weights_of
 pushed_weight n edges seen weight amount [] backward before after odd steps inside once pushed =
-    let same : weighed n edges after weight ≡ weighed n edges before weight =
+    let same : weighed_sum n edges after weight ≡ weighed_sum n edges before weight =
     int_sum_below-same n (λ place. pos (after place) *ℤ weight (edge_at edges place)) (λ place. pos (before place) *ℤ weight (edge_at edges place))
     (λ place _. ap (λ u. pos u *ℤ weight (edge_at edges place)) (pushed.others place (λ step never. absurd (omega arith)))) in
     omega (arith, ints, same, scaled_parts amount (pos 0))

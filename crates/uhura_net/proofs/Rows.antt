@@ -7,11 +7,12 @@ use Rattle.uhura_plan.specs.declared.key.Item.{Item}
 use Rattle.uhura_plan.specs.declared.key.Item.TheVariants.{Requirement, Uncertain}
 use Rattle.uhura_plan.specs.declared.key.EdgeKey.{EdgeKey}
 use Rattle.uhura_plan.specs.declared.key.EdgeKey.TheVariants.{Loose, Firm, Order, Steep}
-use Rattle.uhura_net.specs.declared.place.TheConstants.{SLOTS, DURATIONS, FIRST_OF_DURATIONS, FIRST_STEEP}
+use Rattle.uhura_plan.specs.declared.limits.TheConstants.{REQUIREMENTS, UNCERTAINS}
+use Rattle.uhura_net.specs.declared.place.TheConstants.{FIRST_OF_DURATIONS, FIRST_STEEP}
 use Rattle.uhura_net.specs.Place.{first_place, first_steep_place, loose_row, firm_row, steep_row, place_number, IsPlacedItem, HasPlace, row_of, is_loose, is_loose_key}
 
 -- a place among the four of a requirement
-row_of-slot : (slot row : ℕ) → slot < SLOTS → row < 4 → row_of (4 * slot + row) ≡ row
+row_of-slot : (slot row : ℕ) → slot < REQUIREMENTS → row < 4 → row_of (4 * slot + row) ≡ row
 row_of-slot slot row placed small =
     rw (lt-ltb (4 * slot + row) FIRST_OF_DURATIONS (omega arith)) (mul-add-mod_self_left 4 slot row ∙ omega arith)
 
@@ -38,7 +39,7 @@ loose_in (Uncertain d) row placed small =
     loose_by_row (FIRST_OF_DURATIONS + 5 * d + row) row (omega arith) (row_of-duration d row (omega arith))
 
 -- the last row of a duration's table
-pub loose_last : (d : ℕ) → d < DURATIONS → is_loose (first_place (Uncertain d) + 4) ≡ false
+pub loose_last : (d : ℕ) → d < UNCERTAINS → is_loose (first_place (Uncertain d) + 4) ≡ false
 loose_last d placed = loose_by_row (FIRST_OF_DURATIONS + 5 * d + 4) 4 (omega arith) (row_of-duration d 4 (omega arith))
 
 -- the pairs of steep edges stand behind the tables

@@ -6,7 +6,7 @@ use Rattle.uhura_net.specs.declared.place.TheConstants.{PLACES}
 use Rattle.uhura_net.specs.declared.edge.Edge.{Edge}
 use Rattle.uhura_net.specs.Edges.{Edges, no_edge, edge_at}
 use Rattle.uhura_net.specs.Circulation.{Units, edges_of, units_of, IsCirculation}
-use Rattle.uhura_net.specs.Net.{Carried, IsNetEdge, IsNet, CanTakeOver, MayBeSet}
+use Rattle.uhura_net.specs.Net.{NetState, IsNetEdge, IsNet, CanTakeOver, MayBeSet}
 use Rattle.uhura_net.proofs.Sums.{sum_below-same}
 
 -- nothing counts as nothing
@@ -20,7 +20,7 @@ same_at units a b node (inl none) = rw none (nothing_at (eqb a node) ∙ sym (no
 same_at units a b node (inr same) = ap (λ n. cond (eqb n node) units 0) same
 
 -- what may be set at a place, by the edges there before and after
-TakesOver : Edge → Edge → ℕ → Type 0
+pub TakesOver : Edge → Edge → ℕ → Type 0
 TakesOver old new units = (units ≡ 0) ⊎ CanTakeOver old new units
 
 from_taken : (old new : Edge) (units : ℕ) → TakesOver old new units → (units ≡ 0) ⊎ (new.from ≡ old.from)
@@ -33,7 +33,7 @@ unfolding TakesOver
 to_taken old new units (inl none) = inl none
 to_taken old new units (inr over) = inr over.to
 
-room_taken : (old new : Edge) (units : ℕ) → TakesOver old new units → units ≤ new.capacity
+pub room_taken : (old new : Edge) (units : ℕ) → TakesOver old new units → units ≤ new.capacity
 unfolding TakesOver
 room_taken old new units (inl none) = omega arith
 room_taken old new units (inr over) = over.room
@@ -60,12 +60,12 @@ circulation_taken places edges new units taken circulation = record {
       into ∙ circulation.balanced node ∙ sym out;
 }
 
-takes_over : (net : Carried) (at : ℕ) (edge : Option Edge) → MayBeSet net at edge → TakesOver (edge_at (edges_of net.edges) at) (unwrap_or edge no_edge) (units_of net.units at)
+pub takes_over : (net : NetState) (at : ℕ) (edge : Option Edge) → MayBeSet net at edge → TakesOver (edge_at (edges_of net.edges) at) (unwrap_or edge no_edge) (units_of net.units at)
 unfolding TakesOver
 takes_over net at edge may = may
 
 -- a net stays one where an edge, or none, is set that may be
-pub IsNet-set : (net : Carried) (at : ℕ) (edge : Option Edge) → at < PLACES → IfSome edge IsNetEdge → MayBeSet net at edge → IsNet net →
+pub IsNet-set : (net : NetState) (at : ℕ) (edge : Option Edge) → at < PLACES → IfSome edge IsNetEdge → MayBeSet net at edge → IsNet net →
     IsNet (record { edges = set net.edges at edge; units = net.units; pushes = net.pushes })
 IsNet-set net at edge inside sound may is_net =
     let room : at < length net.edges = omega (arith, is_net.places) in

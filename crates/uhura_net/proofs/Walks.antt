@@ -6,7 +6,7 @@ use Rattle.std.proofs.lemmas.Int.{ints}
 use Rattle.std.proofs.lemmas.List.Elements.{All-nil, All-cons, All-head, All-tail}
 use Rattle.uhura_net.specs.declared.edge.Edge.{Edge}
 use Rattle.uhura_net.specs.declared.place.Place.{Place}
-use Rattle.uhura_net.specs.Edges.{Edges, no_edge, edge_at, KeepsAt, Meets, MeetsAt}
+use Rattle.uhura_net.specs.Edges.{Edges, no_edge, edge_at, KeepsAt, AreKept, AreKeptAt}
 use Rattle.uhura_net.specs.Walk.{Leads, IsClosedWalk, bounds_of, edges_at, IsNegativeWalk}
 use Rattle.uhura_net.proofs.Scaled.{scaled_parts, scaled-plus, not_below_by_multiple, once}
 
@@ -30,26 +30,26 @@ closed-not_negative k times (edge ∷ walk) some keep closed =
     telescope k times edge.from edge.from (edge ∷ walk) keep (refl, closed) in
     not_below_by_multiple k (bounds_of (edge ∷ walk)) some (omega (arith, ints))
 
--- times that meet edges keep the one at a place that has one
+-- times that keep edges keep the one at a place that has one
 kept_where_there : (k : ℕ) (times : ℕ → ℤ) (at : Option Edge) → ((edge : Edge) → at ≡ Some edge → KeepsAt k times edge) → IsSome at →
     KeepsAt k times (unwrap_or at no_edge)
 kept_where_there k times None keep there = absurd (let never : ⊥ = cc in never)
 kept_where_there k times (Some edge) keep there = keep edge refl
 
 -- and those of a walk
-kept_along : (k : ℕ) (edges : Edges) (times : ℕ → ℤ) (places : List Place) → MeetsAt k edges times → All (λ place. IsSome (edges place.0)) places →
+kept_along : (k : ℕ) (edges : Edges) (times : ℕ → ℤ) (places : List Place) → AreKeptAt k edges times → All (λ place. IsSome (edges place.0)) places →
     All (KeepsAt k times) (edges_at edges places)
-kept_along k edges times [] meets there = All-nil (KeepsAt k times)
-kept_along k edges times (place ∷ places) meets there =
+kept_along k edges times [] kept there = All-nil (KeepsAt k times)
+kept_along k edges times (place ∷ places) kept there =
     All-cons (KeepsAt k times) (edge_at edges place.0) (edges_at edges places)
-    (kept_where_there k times (edges place.0) (meets place.0) (All-head (λ (p : Place). IsSome (edges p.0)) place places there))
-    (kept_along k edges times places meets (All-tail (λ (p : Place). IsSome (edges p.0)) place places there))
+    (kept_where_there k times (edges place.0) (kept place.0) (All-head (λ (p : Place). IsSome (edges p.0)) place places there))
+    (kept_along k edges times places kept (All-tail (λ (p : Place). IsSome (edges p.0)) place places there))
 
-pub none_meet_in_parts : (k : ℕ) (edges : Edges) (places : List Place) (times : ℕ → ℤ) → 1 ≤ k → MeetsAt k edges times → IsNegativeWalk edges places → ⊥
-none_meet_in_parts k edges places times some meets walk =
-    let above = closed-not_negative k times (edges_at edges places) some (kept_along k edges times places meets walk.there) walk.closed in
+pub none_meet_in_parts : (k : ℕ) (edges : Edges) (places : List Place) (times : ℕ → ℤ) → 1 ≤ k → AreKeptAt k edges times → IsNegativeWalk edges places → ⊥
+none_meet_in_parts k edges places times some kept walk =
+    let above = closed-not_negative k times (edges_at edges places) some (kept_along k edges times places kept walk.there) walk.closed in
     omega (arith, ints, above, walk.below)
 
-pub none_meet : (edges : Edges) (places : List Place) (times : ℕ → ℤ) → Meets edges times → IsNegativeWalk edges places → ⊥
-none_meet edges places times meets walk =
-    none_meet_in_parts 1 edges places times (omega arith) (λ place edge is. omega (arith, ints, meets place edge is, once edge.bound)) walk
+pub none_meet : (edges : Edges) (places : List Place) (times : ℕ → ℤ) → AreKept edges times → IsNegativeWalk edges places → ⊥
+none_meet edges places times kept walk =
+    none_meet_in_parts 1 edges places times (omega arith) (λ place edge is. omega (arith, ints, kept place edge is, once edge.bound)) walk

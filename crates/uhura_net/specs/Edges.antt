@@ -1,4 +1,4 @@
--- Edges, each at its place, and times that meet them.
+-- Edges, each at its place, and times that keep them.
 use Rattle.std.specs.Prelude.{ℕ, ◌≡◌, ℤ, pos, ◌-ℤ◌, ◌*ℤ◌, ◌≤ℤ◌, Bool, false, if◌then◌else◌, List, Option, None, Some, unwrap_or, slice_index_or}
 use Rattle.uhura_net.specs.declared.edge.Edge.{Edge}
 
@@ -8,7 +8,8 @@ Edges = ℕ → Option Edge
 
 -- the edges of a table at the chosen places
 abbrev pub chosen_edges : List (Option Edge) → List Bool → Edges
-chosen_edges table chosen place = if slice_index_or chosen place false then slice_index_or table place None else None
+chosen_edges table chosen place =
+    if slice_index_or chosen place false then slice_index_or table place None else None
 
 -- an edge that can carry nothing
 abbrev pub no_edge : Edge
@@ -30,10 +31,11 @@ KeepsAt k times edge = (times edge.to -ℤ times edge.from) ≤ℤ (pos k *ℤ e
 abbrev pub Keeps : (ℕ → ℤ) → Edge → Type 0
 Keeps times edge = (times edge.to -ℤ times edge.from) ≤ℤ edge.bound
 
--- times in whole units meet edges where they keep each that is there
-abbrev pub Meets : Edges → (ℕ → ℤ) → Type 0
-Meets edges times = (place : ℕ) (edge : Edge) → edges place ≡ Some edge → Keeps times edge
+-- times in whole units keep all edges that are there
+abbrev pub AreKept : Edges → (ℕ → ℤ) → Type 0
+AreKept edges times = (place : ℕ) (edge : Edge) → edges place ≡ Some edge → Keeps times edge
 
--- and times in k-ths do
-abbrev pub MeetsAt : ℕ → Edges → (ℕ → ℤ) → Type 0
-MeetsAt k edges times = (place : ℕ) (edge : Edge) → edges place ≡ Some edge → KeepsAt k times edge
+-- and times in k-ths
+abbrev pub AreKeptAt : ℕ → Edges → (ℕ → ℤ) → Type 0
+AreKeptAt k edges times =
+    (place : ℕ) (edge : Edge) → edges place ≡ Some edge → KeepsAt k times edge

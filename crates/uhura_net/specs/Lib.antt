@@ -2,9 +2,10 @@ pub mod Place
 pub mod Table
 pub mod Edges
 pub mod Walk
+pub mod Lists
 pub mod Sums
 pub mod Circulation
 pub mod Optimal
 pub mod Residual
 pub mod Net
-pub mod Price
+pub mod Worth

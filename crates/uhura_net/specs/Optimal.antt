@@ -28,7 +28,8 @@ pub record IsOptimalAt (edge : Edge) (units : ℕ) (potentials : ℕ → ℤ) : 
 
 -- and so at each place
 abbrev pub IsOptimal : Edges → Units → (ℕ → ℤ) → Type 0
-IsOptimal edges units potentials = (place : ℕ) → IsOptimalAt (edge_at edges place) (units place) potentials
+IsOptimal edges units potentials =
+    (place : ℕ) → IsOptimalAt (edge_at edges place) (units place) potentials
 
 -- the edges at places that aren't loose
 abbrev pub firm_edges : Edges → Edges
@@ -36,11 +37,17 @@ firm_edges edges place = if is_loose place then None else edges place
 
 -- the capacities of the loose edges at the first places, all together
 abbrev pub loose_capacity : ℕ → Edges → ℕ
-loose_capacity places edges = sum_below places (λ place. if is_loose place then (edge_at edges place).capacity else 0)
+loose_capacity places edges =
+    sum_below places (λ place. if is_loose place then (edge_at edges place).capacity else 0)
 
--- each of them times the excess of its edge, all together
+-- a capacity times the excess of its edge
+abbrev pub paid_excess : Edge → (ℕ → ℤ) → ℕ
+paid_excess edge times = edge.capacity * excess_of times edge
+
+-- and those of the loose edges all together
 abbrev pub loose_excess : ℕ → Edges → (ℕ → ℤ) → ℕ
-loose_excess places edges times = sum_below places (λ place. if is_loose place then (edge_at edges place).capacity * excess_of times (edge_at edges place) else 0)
+loose_excess places edges times = sum_below places (λ place.
+    if is_loose place then paid_excess (edge_at edges place) times else 0)
 
 -- each edge that isn't loose is at one of the first places, and can carry more than the loose ones together
 pub record OutweighsLoose (places : ℕ) (edges : Edges) (place : ℕ) (edge : Edge) : Type 0 where
@@ -48,8 +55,11 @@ pub record OutweighsLoose (places : ℕ) (edges : Edges) (place : ℕ) (edge : E
   pub more : loose_capacity places edges < edge.capacity
 
 abbrev pub FirmOutweighLoose : ℕ → Edges → Type 0
-FirmOutweighLoose places edges = (place : ℕ) (edge : Edge) → firm_edges edges place ≡ Some edge → OutweighsLoose places edges place edge
+FirmOutweighLoose places edges =
+    (place : ℕ) (edge : Edge) → firm_edges edges place ≡ Some edge →
+    OutweighsLoose places edges place edge
 
 -- each edge is at one of the places, and may stand there
 abbrev pub ArePlaced : Edges → Type 0
-ArePlaced edges = (place : ℕ) (edge : Edge) → edges place ≡ Some edge → (place < PLACES) × IsEdgeFor place edge
+ArePlaced edges =
+    (place : ℕ) (edge : Edge) → edges place ≡ Some edge → (place < PLACES) × IsEdgeFor place edge

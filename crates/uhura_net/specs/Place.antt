@@ -1,5 +1,5 @@
--- Where the edges of requirements and durations stand: in the tables of their items, one after another, and behind all
--- tables in pairs of steep edges.
+-- Where the edges of requirements and durations stand: in the tables of their items, one after another, and behind
+-- all tables in pairs of steep edges.
 use Rattle.std.specs.Prelude.{◌≡◌, ℕ, ◌+◌, ◌-◌, ◌*◌, ◌%◌, ◌<◌, nat_lt, nat_le, ◌==◌, ◌||◌, Bool, true, false, if◌then◌else◌}
 use Rattle.uhura_plan.specs.declared.key.Side.{Side}
 use Rattle.uhura_plan.specs.declared.key.Side.TheVariants.{Lower, Upper}
@@ -7,7 +7,8 @@ use Rattle.uhura_plan.specs.declared.key.Item.{Item}
 use Rattle.uhura_plan.specs.declared.key.Item.TheVariants.{Requirement, Uncertain}
 use Rattle.uhura_plan.specs.declared.key.EdgeKey.{EdgeKey}
 use Rattle.uhura_plan.specs.declared.key.EdgeKey.TheVariants.{Loose, Firm, Order, Steep}
-use Rattle.uhura_net.specs.declared.place.TheConstants.{SLOTS, DURATIONS, FIRST_OF_DURATIONS, FIRST_STEEP}
+use Rattle.uhura_plan.specs.declared.limits.TheConstants.{REQUIREMENTS, UNCERTAINS}
+use Rattle.uhura_net.specs.declared.place.TheConstants.{FIRST_OF_DURATIONS, FIRST_STEEP}
 
 -- where the table of an item begins: four places for each slot of a requirement, and then five for each duration
 abbrev pub first_place : Item → ℕ
@@ -17,7 +18,7 @@ first_place (Uncertain d) = FIRST_OF_DURATIONS + 5 * d
 -- where the pair of an item's steep edges begins: behind all tables, first those of slots and then those of durations
 abbrev pub first_steep_place : Item → ℕ
 first_steep_place (Requirement slot) = FIRST_STEEP + 2 * slot
-first_steep_place (Uncertain d) = FIRST_STEEP + 2 * SLOTS + 2 * d
+first_steep_place (Uncertain d) = FIRST_STEEP + 2 * REQUIREMENTS + 2 * d
 
 -- the rows of a table: lower loose, lower firm, upper loose, upper firm
 abbrev pub loose_row : Side → ℕ
@@ -42,14 +43,14 @@ place_number (Steep key) = first_steep_place key.item + steep_row key.side
 
 -- there are so many slots of requirements, and so many durations
 abbrev pub IsPlacedItem : Item → Type 0
-IsPlacedItem (Requirement slot) = slot < SLOTS
-IsPlacedItem (Uncertain d) = d < DURATIONS
+IsPlacedItem (Requirement slot) = slot < REQUIREMENTS
+IsPlacedItem (Uncertain d) = d < UNCERTAINS
 
 -- the edge is one of such an item
 abbrev pub HasPlace : EdgeKey → Type 0
 HasPlace (Loose key) = IsPlacedItem key.item
 HasPlace (Firm key) = IsPlacedItem key.item
-HasPlace (Order d) = d < DURATIONS
+HasPlace (Order d) = d < UNCERTAINS
 HasPlace (Steep key) = IsPlacedItem key.item
 
 -- the edge of the key stands at the place
@@ -58,7 +59,8 @@ StandsAt place key = HasPlace key × (place_number key ≡ place)
 
 -- the row of a place in the table of its item
 abbrev pub row_of : ℕ → ℕ
-row_of place = if nat_lt place FIRST_OF_DURATIONS then place % 4 else (place - FIRST_OF_DURATIONS) % 5
+row_of place =
+    if nat_lt place FIRST_OF_DURATIONS then place % 4 else (place - FIRST_OF_DURATIONS) % 5
 
 -- a place is loose where it is for the loose or the steep edge of a side
 unfoldable pub is_loose : ℕ → Bool

@@ -12,20 +12,23 @@ use Rattle.uhura_net.specs.Circulation.{Units, units_of}
 -- start at minus its bound, and can carry as many units as it has.
 abbrev pub residual_edge : Edge → ℕ → Bool → Edge
 residual_edge edge units false = record edge { capacity = edge.capacity - units }
-residual_edge edge units true = record { from = edge.to; to = edge.from; bound = neg_ℤ edge.bound; capacity = units }
+residual_edge edge units true =
+    record { from = edge.to; to = edge.from; bound = neg_ℤ edge.bound; capacity = units }
 
 -- the residual edges at places, each of them walked backward or forward
 abbrev pub residual_walk : Edges → Units → List Place → List Bool → List Edge
 residual_walk edges units [] backward = []
 residual_walk edges units (place ∷ places) [] = []
 residual_walk edges units (place ∷ places) (back ∷ backward) =
-    residual_edge (edge_at edges place.0) (units place.0) back ∷ residual_walk edges units places backward
+    residual_edge (edge_at edges place.0) (units place.0) back
+    ∷ residual_walk edges units places backward
 
 abbrev pub is_same_place : Place → Place → Bool
 is_same_place a b = a.0 == b.0
 
 -- a closed walk of residual edges that can carry some more units each, on which no place stands twice
-pub record IsResidualCycle (edges : Edges) (units : Units) (places : List Place) (backward : List Bool) (amount : ℕ) : Type 0 where
+pub record IsResidualCycle (edges : Edges) (units : Units) (places : List Place)
+    (backward : List Bool) (amount : ℕ) : Type 0 where
   pub steps : length backward ≡ length places
   pub inside : All (λ place. place.0 < PLACES) places
   pub once : IsDistinct is_same_place places
@@ -46,15 +49,22 @@ abbrev pub HasRoom : ℕ → Bool → ℕ → Type 0
 HasRoom amount false before = before + amount < 2 ^ 64
 HasRoom amount true before = amount ≤ before
 
-pub record CanStep (places : List Place) (backward : List Bool) (amount : ℕ) (units : List ℕ) (step : ℕ) : Type 0 where
+pub record CanStep (places : List Place) (backward : List Bool) (amount : ℕ) (units : List ℕ)
+    (step : ℕ) : Type 0 where
   pub inside : place_at places step < length units
-  pub room : HasRoom amount (slice_index_or backward step false) (units_of units (place_at places step))
+  pub room :
+      HasRoom amount (slice_index_or backward step false) (units_of units (place_at places step))
 
 -- and each step of a walk can
 abbrev pub CanMove : List Place → List Bool → ℕ → List ℕ → Type 0
-CanMove places backward amount units = (step : ℕ) → step < length places → CanStep places backward amount units step
+CanMove places backward amount units =
+    (step : ℕ) → step < length places → CanStep places backward amount units step
 
 -- units are moved at each place of a walk, and stay at all others
-pub record IsPushed (places : List Place) (backward : List Bool) (amount : ℕ) (before after : Units) : Type 0 where
-  pub moved : (step : ℕ) → step < length places → IsMoved amount (slice_index_or backward step false) (before (place_at places step)) (after (place_at places step))
-  pub others : (place : ℕ) → ((step : ℕ) → step < length places → place_at places step ≢ place) → after place ≡ before place
+pub record IsPushed (places : List Place) (backward : List Bool) (amount : ℕ)
+    (before after : Units) : Type 0 where
+  pub moved : (step : ℕ) → step < length places →
+      IsMoved amount (slice_index_or backward step false)
+      (before (place_at places step)) (after (place_at places step))
+  pub others : (place : ℕ) → ((step : ℕ) → step < length places → place_at places step ≢ place) →
+      after place ≡ before place

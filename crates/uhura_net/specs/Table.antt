@@ -7,9 +7,11 @@ use Rattle.uhura_net.specs.declared.place.TheConstants.{PLACES}
 use Rattle.uhura_net.specs.declared.edge.Edge.{Edge}
 use Rattle.uhura_net.specs.Place.{is_loose}
 
--- the capacity of an edge: a unit's price, from 1 to 1,000,000, where its place is loose, and 10,000,000,000 elsewhere
+-- the capacity of an edge: a unit's price, from 1 to 1,000,000, where its place is loose, and the firm capacity
+-- elsewhere
 abbrev pub IsCapacityFor : ℕ → ℕ → Type 0
-IsCapacityFor place capacity = MatchBool (is_loose place) (IsUnitPrice capacity) (capacity ≡ FIRM_CAPACITY)
+IsCapacityFor place capacity =
+    MatchBool (is_loose place) (IsUnitPrice capacity) (capacity ≡ FIRM_CAPACITY)
 
 -- the edge may stand at the place: between two nodes, with a bound from -20,000,000,000,000 to
 -- 20,000,000,000,000 and the capacity of the place

@@ -1,50 +1,63 @@
 //! Edges with a circulation on them.
-ghost use Rattle.std.specs.Prelude.{◌≡◌, ◌+◌, ◌-◌, ◌^◌, ◌<◌, min, pos, ◌+ℤ◌, ◌*ℤ◌, None, IfOk, IfSome, replicate, slice_index_or, slice_set};
+ghost use Rattle.std.specs.Prelude.{◌≡◌, ◌+◌, ◌-◌, ◌^◌, ◌<◌, min, pos, ◌+ℤ◌, ◌*ℤ◌, IfOk, IfSome, slice_set};
 ghost use Rattle.uhura_net.specs.Walk.{bounds_of};
 ghost use Rattle.uhura_net.specs.Circulation.{edges_of, units_of};
-ghost use Rattle.uhura_net.specs.Residual.{residual_walk, IsResidualCycle, IsPushed};
-ghost use Rattle.uhura_net.specs.Net.{IsNetEdge, IsNet, MayBeSet, net_value};
+ghost use Rattle.uhura_net.specs.Residual.{IsPushed};
+ghost use Rattle.uhura_net.specs.Net.{IsNetEdge, IsNet, MayBeSet, net_value, empty_net, net_walk, IsNetCycle};
+ghost use Rattle.uhura_net.specs.Lists.{AreListed};
+ghost use Rattle.uhura_net.specs.declared.edge.End.TheVariants.{From, To};
 
-use crate::moving::move_units;
-use crate::pricing::price;
-use crate::{Edge, PLACES, Place};
+use crate::lists::Lists;
+use crate::moving::{bounds_along, move_units};
+use crate::worth::{change_value, push_value};
+use crate::{Edge, End, PLACES, Place};
 use std::alloc::{AllocError, Global};
 use std::marker::Model;
 
-/// Edges at their places, and the units that each of them carries, which are a circulation: at each node as many enter
-/// as leave, and no edge carries more than its capacity. Only `new` takes memory.
+/// Edges at their places, and the units that each of them carries, which are a circulation: at each node as many
+/// enter as leave, and no edge carries more than its capacity. At each node it keeps the lists of places whose edge
+/// leaves it and enters it. Only `new` takes memory.
 #[derive(Debug, Drop)]
 pub struct Net {
     edges: Vec<Option<Edge>>,
     units: Vec<u64>,
     pushes: u64,
+    value: i128,
+    leaving: Lists,
+    entering: Lists,
 }
 
 impl Model for Net {
-    ghost use Rattle.uhura_net.specs.Net.{Carried, IsNet};
+    ghost use Rattle.uhura_net.specs.Net.{NetState, IsKeptNet};
 
-    ghost Value = { Carried };
+    ghost Value = { NetState };
 
-    ghost view = { λ net. record { edges = net.edges.items; units = net.units.items; pushes = net.pushes } };
+    ghost view = { λ net.
+        record { edges = net.edges.items; units = net.units.items; pushes = net.pushes } };
 
-    ghost invariant = { λ net. IsNet (record { edges = net.edges.items; units = net.units.items; pushes = net.pushes }) };
+    ghost invariant = { λ net. IsKeptNet
+        (record { edges = net.edges.items; units = net.units.items; pushes = net.pushes })
+        net.value net.leaving net.entering };
 }
 
 impl Net {
     /// A net without an edge.
     pub fn new(alloc: Global) -> Result<Net, AllocError>
-        ensures net { IfOk result (λ net. net ≡ record { edges = replicate PLACES None; units = replicate PLACES 0; pushes = 0 }) }
+        ensures net { IfOk result (λ net. net ≡ empty_net) }
         ensures sound { IfOk result IsNet }
     {
         Ok(Net {
             edges: vec![in alloc; None; PLACES]?,
             units: vec![in alloc; 0; PLACES]?,
             pushes: 0,
+            value: 0,
+            leaving: Lists::new(alloc)?,
+            entering: Lists::new(alloc)?,
         })
     }
 
-    /// Puts an edge, or none, at a place. All units stay, and all other edges. An edge may come and go where there are no
-    /// units; where there are some, the new edge has the same nodes and a capacity for them.
+    /// Puts an edge, or none, at a place. All units stay, and all other edges. An edge may come and go where there
+    /// are no units; where there are some, the new edge has the same nodes and a capacity for them.
     pub fn set(&mut self, place: Place, edge: Option<Edge>)
         requires place { place.0 < PLACES }
         requires edge { IfSome edge IsNetEdge }
@@ -52,7 +65,12 @@ impl Net {
         ensures net { self.new ≡ record self.old { edges = slice_set self.old.edges place.0 edge } }
         ensures sound { IsNet self.new }
     {
-        self.edges[place.0 as usize] = edge;
+        let at = place.0 as usize;
+        let units = self.units[at];
+        self.value = change_value(self.value, self.edges[at], edge, units);
+        self.edges[at] = edge;
+        self.leaving.list(&self.edges, End::From, place);
+        self.entering.list(&self.edges, End::To, place);
     }
 
     /// The edge at a place.
@@ -74,27 +92,45 @@ impl Net {
         self.units[place.0 as usize]
     }
 
+    /// At each node the list of places whose edge leaves it.
+    pub fn leaving(&self) -> &Lists
+        ensures { AreListed (edges_of self.now.edges) From result.now }
+    {
+        &self.leaving
+    }
+
+    /// At each node the list of places whose edge enters it.
+    pub fn entering(&self) -> &Lists
+        ensures { AreListed (edges_of self.now.edges) To result.now }
+    {
+        &self.entering
+    }
+
     /// Moves units around a residual cycle: each place that is walked forward gets them, and they are taken from each
     /// that is walked backward. The value falls by the units times the bounds along the walk.
     pub fn push(&mut self, places: &[Place], backward: &[bool], units: u64)
-        requires { IsResidualCycle (edges_of self.old.edges) (units_of self.old.units) places.now backward.now units }
+        requires { IsNetCycle self.old places.now backward.now units }
         ensures edges { self.new.edges ≡ self.old.edges }
-        ensures units { IsPushed places.now backward.now units (units_of self.old.units) (units_of self.new.units) }
+        ensures units { IsPushed places.now backward.now units
+            (units_of self.old.units) (units_of self.new.units) }
         ensures pushes { self.new.pushes ≡ min (self.old.pushes + 1) (2 ^ 64 - 1) }
         ensures sound { IsNet self.new }
-        ensures value { net_value self.new +ℤ (pos units *ℤ bounds_of (residual_walk (edges_of self.old.edges) (units_of self.old.units) places.now backward.now)) ≡ net_value self.old }
+        ensures value { net_value self.new +ℤ
+            (pos units *ℤ bounds_of (net_walk self.old places.now backward.now)) ≡
+            net_value self.old }
     {
+        let bounds = bounds_along(&self.edges, places, backward);
         move_units(&mut self.units, places, backward, units);
+        self.value = push_value(self.value, units, bounds);
         self.pushes = self.pushes.saturating_add(1);
     }
 
     /// The value of the circulation: minus the sum of bound times units.
-    #[tactic(auto, unfolding(crate::specs::Net::net_value))]
     pub fn value(&self) -> i128
         ensures value { result ≡ net_value self.now }
         ensures sound { IsNet self.now }
     {
-        -price(&self.edges, &self.units)
+        self.value
     }
 
     /// How many pushes there were. It stands still at the end of its type.

@@ -1,26 +1,20 @@
-//! Every edge that a plan can have stands at a place of its own. A requirement in slot `s` has the places from `4 * s`
-//! on, and duration `d` those from `8192 + 5 * d` on, each in the order lower loose, lower firm, upper loose,
-//! upper firm; a duration has its order edge last. Behind all of these a requirement has its lower and upper steep edge
-//! from `9472 + 2 * s` on, and a duration from `13568 + 2 * d` on.
+//! Every edge that a plan can have stands at a place of its own. A requirement in slot `s` has the places from `4 *
+//! s` on, and duration `d` those from `8192 + 5 * d` on, each in the order lower loose, lower firm, upper loose,
+//! upper firm; a duration has its order edge last. Behind all of these a requirement has its lower and upper steep
+//! edge from `9472 + 2 * s` on, and a duration from `13568 + 2 * d` on.
 ghost use Rattle.std.specs.Prelude.{◌≡◌, ◌+◌, ◌*◌, ◌<◌};
 ghost use Rattle.uhura_net.specs.Place.{first_place, first_steep_place, loose_row, firm_row, steep_row, place_number, IsPlacedItem, HasPlace};
 
-use uhura_plan::{EdgeKey, Item, Side, SideKey};
-
-/// The number of slots of requirements.
-const SLOTS: u32 = 2048;
-
-/// The number of durations.
-const DURATIONS: u32 = 256;
+use uhura_plan::{EdgeKey, Item, REQUIREMENTS, Side, SideKey, UNCERTAINS};
 
 /// The first place of a duration, behind the slots with four places each.
-const FIRST_OF_DURATIONS: u32 = 4 * SLOTS;
+const FIRST_OF_DURATIONS: u32 = 4 * REQUIREMENTS;
 
 /// The first place of a steep edge, behind the durations with five places each.
-const FIRST_STEEP: u32 = FIRST_OF_DURATIONS + 5 * DURATIONS;
+const FIRST_STEEP: u32 = FIRST_OF_DURATIONS + 5 * UNCERTAINS;
 
 /// The number of places.
-pub const PLACES: usize = (FIRST_STEEP + 2 * SLOTS + 2 * DURATIONS) as usize;
+pub const PLACES: usize = (FIRST_STEEP + 2 * REQUIREMENTS + 2 * UNCERTAINS) as usize;
 
 /// The number of a place, below `PLACES`.
 #[derive(Clone, Copy, Debug, PartialEq, Eq)]
@@ -76,7 +70,7 @@ fn first_steep_place(item: Item) -> u32
 {
     match item {
         Item::Requirement(slot) => FIRST_STEEP + 2 * slot,
-        Item::Uncertain(duration) => FIRST_STEEP + 2 * SLOTS + 2 * duration,
+        Item::Uncertain(duration) => FIRST_STEEP + 2 * REQUIREMENTS + 2 * duration,
     }
 }
 
@@ -105,7 +99,7 @@ fn steep_row(side: Side) -> u32
 
 /// The edge of a duration, by the places in front of it in the tables of durations.
 fn duration_key(number: u32) -> EdgeKey
-    requires { number < 5 * DURATIONS }
+    requires { number < 5 * UNCERTAINS }
     ensures place { place_number result ≡ FIRST_OF_DURATIONS + number }
     ensures has_place { HasPlace result }
 {
@@ -135,15 +129,15 @@ fn key_in_row(item: Item, row: u32) -> EdgeKey
 
 /// The steep edge with so many others in front of it.
 fn steep_key(number: u32) -> EdgeKey
-    requires { number < 2 * SLOTS + 2 * DURATIONS }
+    requires { number < 2 * REQUIREMENTS + 2 * UNCERTAINS }
     ensures place { place_number result ≡ FIRST_STEEP + number }
     ensures has_place { HasPlace result }
 {
     let pair = number / 2;
-    let item = if pair < SLOTS {
+    let item = if pair < REQUIREMENTS {
         Item::Requirement(pair)
     } else {
-        Item::Uncertain(pair - SLOTS)
+        Item::Uncertain(pair - REQUIREMENTS)
     };
     let side = if number % 2 == 0 {
         Side::Lower
@@ -151,36 +145,4 @@ fn steep_key(number: u32) -> EdgeKey
         Side::Upper
     };
     EdgeKey::Steep(SideKey { item, side })
-}
-
-#[cfg(test)]
-mod tests {
-    use super::*;
-
-    #[test]
-    fn places_edges_by_item_and_row(rt: HostRuntime) {
-        let side = |item, side| SideKey { item, side };
-        let table: [(EdgeKey, u32); 7] = [
-            (EdgeKey::Loose(side(Item::Requirement(0), Side::Lower)), 0),
-            (EdgeKey::Firm(side(Item::Requirement(7), Side::Upper)), 31),
-            (
-                EdgeKey::Loose(side(Item::Requirement(2047), Side::Upper)),
-                8190,
-            ),
-            (EdgeKey::Firm(side(Item::Uncertain(0), Side::Lower)), 8193),
-            (EdgeKey::Order(255), 9471),
-            (
-                EdgeKey::Steep(side(Item::Requirement(7), Side::Lower)),
-                9486,
-            ),
-            (
-                EdgeKey::Steep(side(Item::Uncertain(255), Side::Upper)),
-                14_079,
-            ),
-        ];
-        for (key, number) in table {
-            assert_eq!(rt; place_of(key), Place(number));
-            assert_eq!(rt; key_of(Place(number)), key);
-        }
-    }
 }

@@ -54,26 +54,3 @@ impl EdgeTable {
         self.edges[place.0 as usize] = edge;
     }
 }
-
-#[cfg(test)]
-mod tests {
-    use super::*;
-
-    #[test]
-    #[tactic(auto, unfolding(crate::specs::Place::is_loose))]
-    fn keeps_what_is_put(rt: HostRuntime) {
-        let mut table = EdgeTable::new(rt.alloc()).expect(&rt, "memory");
-        let edge = Edge {
-            from: 3,
-            to: 1023,
-            bound: -5,
-            capacity: 10_000_000_000,
-        };
-        table.put(Place(1), Some(edge));
-        table.put(Place(3), Some(edge));
-        table.put(Place(3), None);
-        assert_eq!(rt; table.get(Place(1)), Some(edge));
-        assert_eq!(rt; table.get(Place(3)), None);
-        assert_eq!(rt; table.get(Place(0)), None);
-    }
-}

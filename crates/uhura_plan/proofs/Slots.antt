@@ -16,7 +16,7 @@ use Rattle.uhura_plan.specs.Edits.{IsLeastFree}
 use Rattle.uhura_plan.proofs.Positions.{none_passes, any_passes_at}
 
 -- copies of the default are the default everywhere
-get_or-replicate_default : {X : Type 0} (n i : ℕ) (x : X) → get_or (replicate n x) i x ≡ x
+pub get_or-replicate_default : {X : Type 0} (n i : ℕ) (x : X) → get_or (replicate n x) i x ≡ x
 get_or-replicate_default zero i x = refl
 get_or-replicate_default (suc n) zero x = refl
 get_or-replicate_default (suc n) (suc i) x = get_or-replicate_default n i x

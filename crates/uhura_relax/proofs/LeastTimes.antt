@@ -9,7 +9,7 @@ use Rattle.uhura_plan.specs.Sound.{IsSound}
 use Rattle.uhura_choice.specs.declared.prefix.Pick.{Pick}
 use Rattle.uhura_net.specs.declared.edge.Edge.{Edge}
 use Rattle.uhura_net.specs.declared.place.Place.{Place}
-use Rattle.uhura_net.specs.Edges.{Edges, chosen_edges, time_at, Meets}
+use Rattle.uhura_net.specs.Edges.{Edges, chosen_edges, time_at, AreKept}
 use Rattle.uhura_net.specs.Walk.{IsNegativeWalk}
 use Rattle.uhura_net.proofs.Walks.{none_meet}
 use Rattle.uhura_cycle.specs.Verdict.{AreGreatestTimes}
@@ -30,7 +30,7 @@ use Rattle.uhura_relax.proofs.FromZero.{times_from_zero, AreExtremes-from_zero, 
 
 -- the times that are found for turned edges, with the other sign, meet the requirements
 opposites-meet : (plan : Lists) (branch : List Pick) (pairs : List (SideKey × ℕ)) (edges : Edges) (times : List ℤ) (schedule : List ℕ) → IsSound plan → AreAtTheirPlaces plan branch (side_units pairs) (turned_edges edges) →
-    Meets edges (time_at times) → IsOppositeOf times (length plan.events) schedule → CoversAllDurations plan 1 (proposal_with branch pairs (scheduled_time schedule))
+    AreKept edges (time_at times) → IsOppositeOf times (length plan.events) schedule → CoversAllDurations plan 1 (proposal_with branch pairs (scheduled_time schedule))
 opposites-meet plan branch pairs edges times schedule sound placed meet opposite =
     let q : Proposal = proposal_with branch pairs (scheduled_time schedule) in
     let found : ℕ → ℤ = λ node. neg_ℤ (time_at times node) in
@@ -45,7 +45,7 @@ opposites-least : (plan : Lists) (branch : List Pick) (pairs : List (SideKey × 
 opposites-least plan branch pairs edges times schedule sound leaves placed greatest opposite others starts meets e below =
     let q : Proposal = proposal_with branch pairs others in
     let all : ℕ → ℤ = times_from_zero plan q in
-    let kept : Meets (turned_edges edges) all = edges-met plan q (turned_edges edges) all placed.loosened (from_zero-meet plan q sound leaves starts meets) in
+    let kept : AreKept (turned_edges edges) all = edges-met plan q (turned_edges edges) all placed.loosened (from_zero-meet plan q sound leaves starts meets) in
     let later : neg_ℤ (all e) ≤ℤ time_at times e =
     greatest.greatest (λ node. neg_ℤ (all node)) (turned_back-met edges all kept) (λ node inside. omega (arith, ints)) e (omega (arith, below, sound.counts.events)) in
     let own : all e ≡ others e = (AreExtremes-from_zero plan q sound leaves starts).events e below in
@@ -58,7 +58,7 @@ IsEarliestSchedule-opposite plan branch pairs table chosen times schedule sound 
     let placed : AreAtTheirPlaces plan branch (side_units pairs) (turned_edges edges) = AreAtTheirPlaces-turned plan branch (side_units pairs) table chosen all filled in
     record {
       events = opposite.events_are;
-      covers = opposites-meet plan branch pairs edges times schedule sound placed greatest.meet opposite;
+      covers = opposites-meet plan branch pairs edges times schedule sound placed greatest.kept opposite;
       earliest = record {
         from_zero = λ e below. omega (arith, ints);
         least = opposites-least plan branch pairs edges times schedule sound leaves placed greatest opposite;

@@ -16,7 +16,7 @@ use Rattle.uhura_plan.specs.Find.{requirement_in}
 use Rattle.uhura_plan.specs.Sound.{IsSound}
 use Rattle.uhura_choice.specs.Branch.{holds}
 use Rattle.uhura_net.specs.declared.edge.Edge.{Edge}
-use Rattle.uhura_net.specs.Edges.{Edges, Keeps, Meets}
+use Rattle.uhura_net.specs.Edges.{Edges, Keeps, AreKept}
 use Rattle.uhura_net.specs.Place.{HasPlace, place_number}
 use Rattle.uhura_worst.specs.Proposal.{Proposal, loosened, narrowed}
 use Rattle.uhura_worst.specs.Edges.{requirement_constraint, duration_constraint, order_constraint, item_of, edge_among}
@@ -32,7 +32,7 @@ IfSome-there P f None holds = tt
 IfSome-there P f (Some x) holds = holds (f x) refl
 
 -- times that meet the loosened edges keep the edge of each side of a requirement
-requirement-kept : (plan : Lists) (q : Proposal) (edges : Edges) (times : ℕ → ℤ) (side : Side) (r : Requirement) → IsSound plan → AreAtTheirPlaces plan q.branch q.units edges → Meets edges times →
+requirement-kept : (plan : Lists) (q : Proposal) (edges : Edges) (times : ℕ → ℤ) (side : Side) (r : Requirement) → IsSound plan → AreAtTheirPlaces plan q.branch q.units edges → AreKept edges times →
     Contains plan.requirements r → IsTrue (holds r.guard q.branch) → IfSome (requirement_constraint side r) (λ c. Keeps times (loosened_edge 1 (loosened q side r) c))
 requirement-kept plan q edges times side r sound placed meets member active =
     let key : EdgeKey = Firm (record { item = item.Requirement r.slot; side = side }) in
@@ -51,7 +51,7 @@ duration-there plan q edges key d u sound placed is has_place of =
     ∙ ap (edge_among (loosened_tables q.branch q.units) plan key) of
     ∙ ap (option_and_then (λ (v : Uncertain). narrowed_duration q.units d v key)) is
 
-pub worst_case-met : (plan : Lists) (q : Proposal) (edges : Edges) (times : ℕ → ℤ) → IsSound plan → AreAtTheirPlaces plan q.branch q.units edges → Meets edges times → MeetsWorstCase plan 1 q times
+pub worst_case-met : (plan : Lists) (q : Proposal) (edges : Edges) (times : ℕ → ℤ) → IsSound plan → AreAtTheirPlaces plan q.branch q.units edges → AreKept edges times → MeetsWorstCase plan 1 q times
 worst_case-met plan q edges times sound placed meets = record {
   requirements = λ side r member active. requirement-kept plan q edges times side r sound placed meets member active;
   durations = λ side d u is.
@@ -97,7 +97,7 @@ by_duration plan q times (Firm key) edge d (Some u) worst of found is =
     (subst (λ (units : ℕ). Keeps times (loosened_edge 1 units (duration_constraint key.side d u))) (sym same) (worst.durations key.side d u found))
 
 -- so times that meet the worst case meet the loosened edges.
-pub edges-met : (plan : Lists) (q : Proposal) (edges : Edges) (times : ℕ → ℤ) → AreLoosenedEdges plan q.branch q.units edges → MeetsWorstCase plan 1 q times → Meets edges times
+pub edges-met : (plan : Lists) (q : Proposal) (edges : Edges) (times : ℕ → ℤ) → AreLoosenedEdges plan q.branch q.units edges → MeetsWorstCase plan 1 q times → AreKept edges times
 edges-met plan q edges times loosened worst place edge is =
     let found : (key : EdgeKey) × HasPlace key × (place ≡ place_number key) × (loosened_edge_of plan q.branch q.units key ≡ Some edge) = loosened place edge is in
     by found.0 (item_of found.0) refl found.3

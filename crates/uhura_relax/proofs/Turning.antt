@@ -4,7 +4,7 @@ use Rattle.std.specs.Prelude.{ℤ, neg_ℤ, option_map}
 use Rattle.std.proofs.lemmas.Int.{ints}
 use Rattle.std.proofs.lemmas.Option.{same_Some}
 use Rattle.uhura_net.specs.declared.edge.Edge.{Edge}
-use Rattle.uhura_net.specs.Edges.{Edges, Keeps, Meets}
+use Rattle.uhura_net.specs.Edges.{Edges, Keeps, AreKept}
 use Rattle.uhura_relax.specs.Loosened.{turn_around}
 
 -- the edge at each place, turned around
@@ -22,13 +22,13 @@ turned-twice None = refl
 turned-twice (Some edge) = refl
 
 -- times that meet edges meet, each with the other sign, the turned ones
-pub turned-met : (edges : Edges) (times : ℕ → ℤ) → Meets edges times → Meets (turned_edges edges) (λ node. neg_ℤ (times node))
+pub turned-met : (edges : Edges) (times : ℕ → ℤ) → AreKept edges times → AreKept (turned_edges edges) (λ node. neg_ℤ (times node))
 turned-met edges times meets place edge is =
     let kept : Keeps times (turn_around edge) = meets place (turn_around edge) (turned-there (edges place) edge is) in
     omega (arith, ints, kept)
 
 -- and the other way
-pub turned_back-met : (edges : Edges) (times : ℕ → ℤ) → Meets (turned_edges edges) times → Meets edges (λ node. neg_ℤ (times node))
+pub turned_back-met : (edges : Edges) (times : ℕ → ℤ) → AreKept (turned_edges edges) times → AreKept edges (λ node. neg_ℤ (times node))
 turned_back-met edges times meets place edge is =
     let kept : Keeps times (turn_around edge) = meets place (turn_around edge) (ap (option_map turn_around) is) in
     omega (arith, ints, kept)

@@ -7,8 +7,6 @@ mod loosened;
 mod refusal;
 mod schedule;
 mod scratch;
-#[cfg(test)]
-mod tests;
 
 pub use earliest_times::{earliest, earliest_in};
 pub use refusal::RelaxRefusal;

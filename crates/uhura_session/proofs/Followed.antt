@@ -9,7 +9,7 @@ use Rattle.uhura_choice.specs.declared.prefix.Pick.{Pick}
 use Rattle.uhura_net.specs.declared.edge.Edge.{Edge}
 use Rattle.uhura_net.specs.declared.place.Place.{Place}
 use Rattle.uhura_net.specs.declared.place.TheConstants.{PLACES}
-use Rattle.uhura_net.specs.Edges.{Edges, KeepsAt, Meets, MeetsAt}
+use Rattle.uhura_net.specs.Edges.{Edges, KeepsAt, AreKept, AreKeptAt}
 use Rattle.uhura_net.specs.Place.{place_number, StandsAt, is_loose_key}
 use Rattle.uhura_net.specs.Walk.{IsNegativeWalk}
 use Rattle.uhura_net.proofs.Keys.{key_at}
@@ -36,7 +36,7 @@ is_followed-parts true active of edge is = absurd (let never : ⊥ = cc in never
 
 module _ (state : State) (branch : List Pick) (edges : Edges) (followed : AreFollowed state branch edges) where
   -- times that meet the edges keep the branch's
-  pub meet-keep : (times : ℕ → ℤ) → IsSound state.plan → Meets edges times → KeepsFirmEdges state 1 branch times
+  pub meet-keep : (times : ℕ → ℤ) → IsSound state.plan → AreKept edges times → KeepsFirmEdges state 1 branch times
   meet-keep times sound meets key edge is firm active =
       let on : is_followed state.plan branch key ≡ true = is_followed-where (is_loose_key key) (is_active_edge state.plan branch key) firm active in
       let there : edges (place_number key) ≡ Some edge =
@@ -51,7 +51,7 @@ module _ (state : State) (branch : List Pick) (edges : Edges) (followed : AreFol
       keeps key edge parts.0 parts.1 parts.2
 
   -- and so meet the edges
-  keep-meet : (times : ℕ → ℤ) → ((place : ℕ) → PLACES ≤ place → edges place ≡ None) → KeepsFirmEdges state 1 branch times → MeetsAt 1 edges times
+  keep-meet : (times : ℕ → ℤ) → ((place : ℕ) → PLACES ≤ place → edges place ≡ None) → KeepsFirmEdges state 1 branch times → AreKeptAt 1 edges times
   keep-meet times past keeps place edge is =
       elim (cases_lt place PLACES) [
         | inl below ↦ let found : (key : EdgeKey) × StandsAt place key = key_at place below in kept-at times place edge found.0 keeps is found.1

@@ -11,8 +11,6 @@ mod filling;
 mod loosening;
 mod node;
 mod tables;
-#[cfg(test)]
-mod tests;
 pub mod worst_case;
 
 pub use edges::edge;

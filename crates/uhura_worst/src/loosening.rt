@@ -72,22 +72,3 @@ fn units_of(pairs: &[(SideKey, u64)], key: SideKey) -> u64
     }
     0
 }
-
-#[cfg(test)]
-mod tests {
-    use super::*;
-    use uhura_plan::{Item, Side};
-
-    #[test]
-    fn adds_sides_in_order(rt: HostRuntime) {
-        let key = |slot, side| SideKey {
-            item: Item::Requirement(slot),
-            side,
-        };
-        let mut loosening = Loosening::new(rt.alloc());
-        loosening.add(key(7, Side::Upper), 3).expect(&rt, "memory");
-        assert_eq!(rt; loosening.units(key(7, Side::Upper)), 3);
-        assert_eq!(rt; loosening.units(key(7, Side::Lower)), 0);
-        assert_eq!(rt; loosening.pairs().len(), 1);
-    }
-}

@@ -1,8 +1,7 @@
 use Rattle.std.proofs.Common.{◌≡◌, ◌<ℤ◌, ◌≤ℤ◌, pos, to_z, of_z, w64, slice_index_or, arith, ◌∙◌}
 use Rattle.std.proofs.lemmas.Int.{ints}
-use Rattle.std.proofs.lemmas.List.{take_all}
 use Rattle.uhura_cycle.specs.declared.step.Step.{Step}
-use Rattle.uhura_cycle.proofs.Least.{IsLeastSoFar-lowered, IsLeastSoFar-same}
+use Rattle.uhura_cycle.proofs.Least.{IsLeastSoFar-lowered, IsLeastSoFar-same, IsLeastBound-done}
 use Rattle.uhura_cycle.proofs.gathering.least_bound.Goals as goal
 use Rattle.uhura_cycle.proofs.gathering.least_bound.Goals.{then-step-least, else-step-least}
 
@@ -22,5 +21,5 @@ loop-step-preserved c =
           rw w.least-is (IsLeastSoFar-same steps i d _ c.loop-step-test.true under c.loop-step.invariant)
     ]
 
-pub returns-clause-below : goal.returns-clause-below
-returns-clause-below c = rw (take_all c.loop-step.step-index c.args.steps.now c.loop-step-test.false) at c.loop-step.invariant.below
+pub returns : goal.returns
+returns c = IsLeastBound-done c.args.steps.now c.loop-step.step-index _ c.loop-step-test.false c.loop-step.invariant

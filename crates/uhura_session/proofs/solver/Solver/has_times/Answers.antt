@@ -26,7 +26,7 @@ returns-clause-answer c = λ vetoes is_table.
       | in-Potentials w ↦
           let found : c.match-matches.matches ≡ true = w.matches-is in
           let times = time_at w.in-Potentials.field-0.now in
-          subst Says (sym found) (times, meet-keep state branch edges followed times c.choose_active.ensures.sound w.in-Potentials.ensures.meet)
+          subst Says (sym found) (times, meet-keep state branch edges followed times c.choose_active.ensures.sound w.in-Potentials.ensures.kept)
       | in_default w ↦
           let none : c.match-matches.matches ≡ false = w.matches-is in
           subst Says (sym none)
