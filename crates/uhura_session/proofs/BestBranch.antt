@@ -21,7 +21,7 @@ use Rattle.uhura_session.specs.Unpriced.{IsUnpriced}
 use Rattle.uhura_session.specs.Branches.{IsOpen, IsFirstCheapest, IsBestOf, IsAny}
 use Rattle.uhura_session.proofs.Opening.{allowed_open}
 use Rattle.uhura_session.proofs.Unpriced.{allowed_unloosened, allowed_unnarrowed}
-use Rattle.uhura_session.proofs.Unloosened.{whole_ranges, covers_without_units, picks_alone_cost}
+use Rattle.uhura_cert.proofs.Unloosened.{whole_ranges, covers_without_units, picks_alone_cost}
 
 -- the times that keep the edges of an open branch meet its requirements with nothing loosened or narrowed
 pub open_times_cover : (state : State) (branch : List Pick) → IsUnpriced state.plan → (opens : IsOpen state branch) → CoversAllDurations state.plan 1 (proposal_with branch [] opens.times)

@@ -1,15 +1,11 @@
-pub mod Walk
 pub mod Ranks
 pub mod Places
 pub mod Followed
 pub mod ChosenFlags
 pub mod FirstCheapest
-pub mod PickLines
 pub mod Opening
 pub mod Unpriced
-pub mod Unloosened
 pub mod BestBranch
-pub mod UnloosenedText
 pub mod Conversing
 pub mod AnswersEdits
 pub mod ShowReplays

@@ -18,7 +18,7 @@ use Rattle.uhura_command.specs.declared.state.refusal.StateRefusal.{StateRefusal
 use Rattle.uhura_command.specs.Apply.{refusal_of, Applies}
 use Rattle.uhura_command.specs.Errors.{IsLineError, IsStateError, unbuilt_text}
 use Rattle.uhura_command.specs.Script.{script}
-use Rattle.uhura_session.specs.ProposalText.{proposal_text}
+use Rattle.uhura_cert.specs.ProposalText.{proposal_text}
 
 -- an accepted edit is answered `ok`
 abbrev pub accepted_text : List ℕ

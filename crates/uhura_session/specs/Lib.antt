@@ -1,4 +1,3 @@
-pub mod ProposalText
 pub mod Answers
 pub mod Session
 pub mod Chosen

@@ -24,7 +24,5 @@ pub fn refusals_are_errors()
 /// have one branch, by the law `slots_settle_nothing`. So no answer depends on the history that made the state.
 pub fn slots_change_no_answer()
     ensures shown { (a b : State) → IsSameUpToSlots a b → shown_text a ≡ shown_text b }
-    ensures asked {
-        (a b : State) → IsSoundState a → IsSoundState b → IsSameUpToSlots a b → IsSameButForSlots a b
-    }
+    ensures asked { (a b : State) → IsSoundState a → IsSoundState b → IsSameUpToSlots a b → IsSameButForSlots a b }
 {}

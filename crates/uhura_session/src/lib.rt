@@ -6,7 +6,6 @@ mod branches;
 mod edit;
 mod flags;
 pub mod law;
-mod proposal;
 mod propose;
 mod session;
 mod solver;

@@ -9,7 +9,7 @@ ghost use Rattle.uhura_session.specs.Branches.{IsOpen};
 ghost use Rattle.uhura_session.specs.Unpriced.{IsUnpriced};
 
 use crate::branches::best_branch;
-use crate::proposal::put_proposal;
+use uhura_cert::put_proposal;
 use crate::solver::Solver;
 use std::alloc::{AllocError, Global};
 use uhura_choice::Branch;

@@ -18,7 +18,7 @@ impl Vetoes {
     }
 }
 
-// A copy of a table whose vetoes are equal to their own copies.
+/// A copy of a table whose vetoes are equal to their own copies.
 fn copy_of_table(table: &IndexMap<Name, Veto>) -> Result<IndexMap<Name, Veto>, AllocError>
     ensures { IfOk result (λ copy. copy.entries ≡ table.now.entries) }
 {

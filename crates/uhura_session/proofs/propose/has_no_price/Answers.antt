@@ -2,7 +2,7 @@ use Rattle.std.proofs.Common.{sym, ap, ◌∙◌}
 use Rattle.std.specs.Prelude.{option_copied}
 use Rattle.uhura_plan.specs.Sides.{loosening_rate}
 use Rattle.uhura_session.specs.Answers.{is_rateless}
-use Rattle.uhura_session.proofs.Walk.{passes_at, fails_at}
+use Rattle.uhura_cert.proofs.Walk.{passes_at, fails_at}
 use Rattle.uhura_session.proofs.propose.has_no_price.Goals as goal
 
 pub returns-then-not-is_unpriced-clause-test : goal.returns-then-not-is_unpriced-clause-test

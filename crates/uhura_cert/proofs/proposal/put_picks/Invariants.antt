@@ -1,6 +1,6 @@
 use Rattle.std.proofs.Common.{◌≡◌, ◌++◌, drop}
-use Rattle.uhura_session.specs.ProposalText.{pick_lines}
-use Rattle.uhura_session.proofs.proposal.put_picks.Given as goal
+use Rattle.uhura_cert.specs.ProposalText.{pick_lines}
+use Rattle.uhura_cert.proofs.proposal.put_picks.Given as goal
 
 abbrev pub invariant-loop-place : goal.invariant-loop-place
 invariant-loop-place l =

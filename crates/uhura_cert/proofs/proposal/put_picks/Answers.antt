@@ -1,11 +1,11 @@
 use Rattle.std.proofs.Common.{◌≡◌, ◌+◌, ◌≤◌, ◌∷◌, [], length, drop, get_or, sym, ◌∙◌, append-nil, arith}
 use Rattle.std.specs.Prelude.{slice_get, Some, None}
 use Rattle.uhura_choice.specs.declared.prefix.Pick.TheVariants.{Alternative}
-use Rattle.uhura_session.specs.ProposalText.{pick_lines}
-use Rattle.uhura_session.proofs.PickLines.{pick_lines_at, pick_lines_past, pick_lines_ended}
-use Rattle.uhura_session.proofs.Walk.{ended_at, extended}
-use Rattle.uhura_session.proofs.proposal.put_picks.Goals as goal
-use Rattle.uhura_session.proofs.proposal.put_picks.Goals.{in-Some+in_ok-put_pick, in_default}
+use Rattle.uhura_cert.specs.ProposalText.{pick_lines}
+use Rattle.uhura_cert.proofs.PickLines.{pick_lines_at, pick_lines_past, pick_lines_ended}
+use Rattle.uhura_cert.proofs.Walk.{ended_at, extended}
+use Rattle.uhura_cert.proofs.proposal.put_picks.Goals as goal
+use Rattle.uhura_cert.proofs.proposal.put_picks.Goals.{in-Some+in_ok-put_pick, in_default}
 
 pub loop-place-preserved : goal.loop-place-preserved
 loop-place-preserved c =

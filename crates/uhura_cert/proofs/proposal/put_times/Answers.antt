@@ -4,10 +4,10 @@ use Rattle.std.proofs.lemmas.Option.{unwrap_or-slice_get}
 use Rattle.uhura_text.specs.Number.{spelling}
 use Rattle.uhura_line.specs.Written.{line_of}
 use Rattle.uhura_relax.specs.Schedule.{scheduled_time}
-use Rattle.uhura_session.specs.ProposalText.{time_lines}
-use Rattle.uhura_session.proofs.Walk.{left_at, ended_at, extended}
-use Rattle.uhura_session.proofs.proposal.put_times.Goals as goal
-use Rattle.uhura_session.proofs.proposal.put_times.Goals.{in-Some+in_ok-put_time, in_default}
+use Rattle.uhura_cert.specs.ProposalText.{time_lines}
+use Rattle.uhura_cert.proofs.Walk.{left_at, ended_at, extended}
+use Rattle.uhura_cert.proofs.proposal.put_times.Goals as goal
+use Rattle.uhura_cert.proofs.proposal.put_times.Goals.{in-Some+in_ok-put_time, in_default}
 
 pub loop-event-preserved : goal.loop-event-preserved
 loop-event-preserved c =

@@ -4,9 +4,9 @@ use Rattle.uhura_text.specs.Number.{spelling}
 use Rattle.uhura_choice.specs.Branch.{picked_cost}
 use Rattle.uhura_line.specs.Written.{line_of}
 use Rattle.uhura_relax.specs.Schedule.{scheduled_time}
-use Rattle.uhura_session.specs.ProposalText.{pick_lines, time_lines}
-use Rattle.uhura_session.proofs.UnloosenedText.{unloosened_text}
-use Rattle.uhura_session.proofs.proposal.put_proposal.Goals as goal
+use Rattle.uhura_cert.specs.ProposalText.{pick_lines, time_lines}
+use Rattle.uhura_cert.proofs.UnloosenedText.{unloosened_text}
+use Rattle.uhura_cert.proofs.proposal.put_proposal.Goals as goal
 
 pub returns : goal.returns
 returns c =

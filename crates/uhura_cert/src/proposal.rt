@@ -3,7 +3,7 @@ ghost use Rattle.std.specs.Prelude.{◌≡◌, ◌≤◌, ◌++◌, [], ◌∷�
 ghost use Rattle.uhura_text.specs.Number.{spelling};
 ghost use Rattle.uhura_line.specs.Written.{line_of};
 ghost use Rattle.uhura_relax.specs.Schedule.{proposal_with, scheduled_time};
-ghost use Rattle.uhura_session.specs.ProposalText.{alternative_name, pick_lines, time_lines, proposal_text};
+ghost use Rattle.uhura_cert.specs.ProposalText.{alternative_name, pick_lines, time_lines, proposal_text};
 
 use std::alloc::AllocError;
 use uhura_choice::{Branch, Pick, picked_cost};

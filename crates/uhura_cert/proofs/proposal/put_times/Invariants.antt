@@ -1,7 +1,7 @@
 use Rattle.std.proofs.Common.{◌≡◌, ◌++◌, drop}
 use Rattle.uhura_relax.specs.Schedule.{scheduled_time}
-use Rattle.uhura_session.specs.ProposalText.{time_lines}
-use Rattle.uhura_session.proofs.proposal.put_times.Given as goal
+use Rattle.uhura_cert.specs.ProposalText.{time_lines}
+use Rattle.uhura_cert.proofs.proposal.put_times.Given as goal
 
 abbrev pub invariant-loop-event : goal.invariant-loop-event
 invariant-loop-event l =

@@ -9,8 +9,8 @@ use Rattle.uhura_choice.specs.declared.prefix.Pick.{Pick}
 use Rattle.uhura_choice.specs.Branch.{picked_cost}
 use Rattle.uhura_line.specs.Written.{line_of}
 use Rattle.uhura_relax.specs.Schedule.{proposal_with}
-use Rattle.uhura_session.specs.ProposalText.{pick_lines, loosen_lines, narrow_lines, time_lines, proposal_text}
-use Rattle.uhura_session.proofs.Unloosened.{picks_alone_cost}
+use Rattle.uhura_cert.specs.ProposalText.{pick_lines, loosen_lines, narrow_lines, time_lines, proposal_text}
+use Rattle.uhura_cert.proofs.Unloosened.{picks_alone_cost}
 
 nothing_loosened : (branch : List Pick) (times : ℕ → ℤ) (rs : List Requirement) → loosen_lines (proposal_with branch [] times) rs ≡ []
 nothing_loosened branch times [] = refl

@@ -6,8 +6,8 @@ use Rattle.std.proofs.lemmas.Option.{slice_get-get_or}
 use Rattle.uhura_plan.specs.declared.choice.Choice.{Choice}
 use Rattle.uhura_choice.specs.declared.prefix.Pick.{Pick}
 use Rattle.uhura_choice.specs.declared.prefix.Pick.TheVariants.{Alternative, Inactive}
-use Rattle.uhura_session.specs.ProposalText.{pick_lines}
-use Rattle.uhura_session.proofs.Walk.{left_at}
+use Rattle.uhura_cert.specs.ProposalText.{pick_lines}
+use Rattle.uhura_cert.proofs.Walk.{left_at}
 
 -- the first line and the rest
 pick_lines-cons : (c : Choice) (cs : List Choice) (x : Pick) (xs : List Pick) → pick_lines (c ∷ cs) (x ∷ xs) ≡ pick_lines (c ∷ []) (x ∷ []) ++ pick_lines cs xs

@@ -1,0 +1,4 @@
+pub mod Walk
+pub mod PickLines
+pub mod Unloosened
+pub mod UnloosenedText
