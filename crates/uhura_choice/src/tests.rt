@@ -25,7 +25,8 @@ fn choose(
     plan.add_choice(name(rt, own), &pairs, guard)
 }
 
-/// On foot, or by train with a ticket; with the day ticket there is a meal. There is always a hat to wear or to leave.
+/// On foot, or by train with a ticket; with the day ticket there is a meal. There is always a hat to wear or to
+/// leave.
 fn outing(rt: &impl Abort, alloc: Global) -> Result<Plan, Fail> {
     let mut plan = Plan::new(alloc)?;
     let (way, ticket) = (name(rt, "way"), name(rt, "ticket"));
