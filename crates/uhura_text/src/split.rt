@@ -20,7 +20,9 @@ pub fn words(line: &[u8]) -> Result<Words<'_>, BadByte>
         (λ e. option_map (min (2 ^ 32 - 1)) (first_bad line.now) ≡ Some e.at) }
 {
     match first_bad(line) {
-        Some(place) => Err(BadByte { at: cap_place(place) }),
+        Some(place) => Err(BadByte {
+            at: cap_place(place),
+        }),
         None => Ok(Words::new(line)),
     }
 }
