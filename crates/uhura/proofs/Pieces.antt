@@ -1,88 +1,98 @@
 -- The reading of a script piece by piece: what stands between two reads, and how a run ends.
-use Rattle.std.proofs.Common.{◌≡◌, ℕ, ◌+◌, ◌-◌, ◌^◌, ◌<◌, ◌≤◌, min, Bool, false, ◌||◌, List, [], ◌++◌, length, take, drop, unwrap_or, Option, Some, None, Ok, Err, refl, sym, ap, ◌∙◌, subst, arith, append-nil, append_assoc, length-append}
+use Rattle.std.proofs.Common.{◌≡◌, ℕ, ◌+◌, ◌-◌, ◌^◌, ◌<◌, ◌≤◌, min, Bool, false, ◌||◌, List, [], ◌++◌, length, take, Option, Ok, Err, refl, sym, ap, ◌∙◌, subst, inl, inr, arith, append-nil, length-append}
 use Rattle.std.proofs.Math.Seq.{take-append-add}
 use Rattle.std.proofs.KnownBytes.{Appends-nil, Appends-trans, Consumes-nil, Consumes-trans, Consumes-kept}
-use Rattle.std.proofs.lemmas.List.{take-take, take-append-drop, length-take-le}
+use Rattle.std.proofs.lemmas.Bool.{cases_lt}
+use Rattle.std.proofs.lemmas.List.{take_all, take-take, length-take-le}
 use Rattle.std.specs.Io.KnownBytes.{Appends, Consumes, IsAtEnd, Keeps}
 use Rattle.uhura_io.specs.Streams.{last_count}
-use Rattle.uhura_text.specs.Lines.{whole}
-use Rattle.uhura_text.specs.Reading.{Reading, IsFresh}
-use Rattle.uhura_veto.specs.State.{State}
+use Rattle.uhura_text.specs.Lines.{lines, whole}
+use Rattle.uhura_text.specs.Reading.{IsFresh}
 use Rattle.uhura_command.specs.State.{empty_state}
 use Rattle.uhura_session.specs.Transcript.{Transcript}
 use Rattle.uhura_session.proofs.Conversing.{Conversation-nil}
-use Rattle.uhura.specs.Run.{script_limit, all_bytes, AnswersFirstLines, IsFrontOfTranscript, Leaves, Runs}
-use Rattle.uhura.specs.Script.{Stops, Stands, AnswersBytes, EndsRun, CompletesAs, status_of}
+use Rattle.uhura.specs.declared.script.TheConstants.{SCRIPT_LIMIT}
+use Rattle.uhura.specs.Run.{Ends, AreRead, Leaves, RunsScript}
+use Rattle.uhura.specs.Script.{Point, Stops, Stands, AnswersBytes, EndsRun, CompletesAs, status_of}
 use Rattle.uhura.specs.declared.script.Stop.{Stop}
 use Rattle.uhura.specs.declared.script.Stop.TheVariants as stop
 use Rattle.uhura.specs.declared.status.Status.{Status}
 use Rattle.uhura.specs.declared.status.Status.TheVariants.{Done, Refused, Usage, TooLong, ReadFault, WriteFault, NoMemory}
 use Rattle.uhura.proofs.Standing.{Stands-nil}
 
--- between two reads: these bytes were taken, this text was added, and there is room for the bytes that a script may still have
-pub record Going (left left' written written' : Option (List ℕ)) (given given' room : ℕ) (refused : Bool) (reading : Reading) (state : State) : Type 0 where
+-- between two reads: these bytes were taken, this text was added, and there is room for the bytes that a script may still
+-- have
+pub record Going (begin : Ends) (left : Option (List ℕ)) (given given' room : ℕ) (refused : Bool) (point : Point) : Type 0 where
   pub bytes : List ℕ
   pub text : List ℕ
-  pub taken : Consumes left left' bytes
-  pub added : Appends written written' text
-  pub size : length bytes + room ≡ 67108864
-  pub stands : Stands bytes text refused reading state
+  pub taken : Consumes begin.left left bytes
+  pub added : Appends begin.written point.written text
+  pub size : length bytes + room ≡ SCRIPT_LIMIT
+  pub stands : Stands bytes text refused point
   pub count : given < 2 ^ 63 → given' ≡ given + length bytes
 
 -- before the first read
-pub Going-start : (left written : Option (List ℕ)) (given : ℕ) (reading : Reading) (state : State) → IsFresh reading → state ≡ empty_state
-    → Going left left written written given given 67108864 false reading state
-Going-start left written given reading state fresh begins = record {
+pub Going-start : (left : Option (List ℕ)) (given : ℕ) (point : Point) → IsFresh point.reading → point.state ≡ empty_state
+    → Going (record { left = left; written = point.written }) left given given SCRIPT_LIMIT false point
+Going-start left given point fresh begins = record {
   bytes = [];
   text = [];
   taken = Consumes-nil left;
-  added = Appends-nil written;
+  added = Appends-nil point.written;
   size = refl;
-  stands = Stands-nil reading state fresh.0 begins;
+  stands = Stands-nil point fresh.0 begins;
   count = λ _. omega arith;
 }
 
--- a run that stopped leaves what its status says
-leaves-stopped : (why : Stop) (bytes text : List ℕ) (left : Option (List ℕ)) → ((rest : List ℕ) → Stops why (bytes ++ rest) text) → Leaves (status_of why) bytes text left
-leaves-stopped stop.WriteFault bytes text left s = s (unwrap_or left [])
-leaves-stopped stop.NoMemory bytes text left s = s (unwrap_or left [])
-
--- at the end of the input the bytes that were read are all
-all-at_end : (bytes : List ℕ) (left : Option (List ℕ)) → IsAtEnd left → bytes ≡ all_bytes bytes left
-all-at_end bytes None end = sym (append-nil bytes)
-all-at_end bytes (Some rest) end = sym (ap (λ l. bytes ++ l) end ∙ append-nil bytes)
+-- a run that stopped at the lines that it may answer leaves what its status says
+leaves-stopped : (why : Stop) (bytes text : List ℕ) (left : Option (List ℕ)) (ls : List (List ℕ)) → AreRead ls bytes left → Stops why ls text
+    → Leaves (status_of why) bytes text left
+leaves-stopped stop.WriteFault bytes text left ls read s = (ls, read, s)
+leaves-stopped stop.NoMemory bytes text left ls read s = (ls, read, s)
 
 -- at the end of the input the run leaves what its status says
-leaves-completed : (result : Status) (bytes text : List ℕ) (left : Option (List ℕ)) → IsAtEnd left → length bytes ≤ script_limit
+leaves-completed : (result : Status) (bytes text : List ℕ) (left : Option (List ℕ)) → IsAtEnd left → length bytes ≤ SCRIPT_LIMIT
     → CompletesAs bytes text result → Leaves result bytes text left
-leaves-completed Done bytes text left end within c = (end, within, c)
-leaves-completed Refused bytes text left end within c = (end, within, c)
+leaves-completed Done bytes text left end within c = record { end = end; within = within; transcript = c }
+leaves-completed Refused bytes text left end within c = record { end = end; within = within; transcript = c }
 leaves-completed Usage bytes text left end within c = absurd c
 leaves-completed TooLong bytes text left end within c = absurd c
 leaves-completed ReadFault bytes text left end within c = absurd c
-leaves-completed WriteFault bytes text left end within c = subst (λ l. IsFrontOfTranscript l text) (all-at_end bytes left end) c
-leaves-completed NoMemory bytes text left end within c = subst (λ l. AnswersFirstLines l text) (all-at_end bytes left end) c
+leaves-completed WriteFault bytes text left end within c = (lines bytes, inr (end, within, refl), c)
+leaves-completed NoMemory bytes text left end within c = (lines bytes, inr (end, within, refl), c)
+
+-- the bytes within the limit: those so far, and of a piece those for which there is room
+within-limit : (bytes buffer : List ℕ) (room n k : ℕ) → length bytes + room ≡ SCRIPT_LIMIT → n ≤ length buffer → k ≡ min n room
+    → take SCRIPT_LIMIT (bytes ++ take n buffer) ≡ bytes ++ take k buffer
+within-limit bytes buffer room n k size bound is =
+    ap (λ m. take m (bytes ++ take n buffer)) (sym size) ∙ take-append-add bytes (take n buffer) room ∙ ap (λ l. bytes ++ l) cut
+  where
+    cut : take room (take n buffer) ≡ take k buffer
+    cut = elim (cases_lt room n) [
+      | inl over ↦ take-take room n buffer (omega arith) ∙ ap (λ m. take m buffer) (omega arith)
+      | inr fits ↦ take_all room (take n buffer) (omega (arith, length-take-le n buffer bound)) ∙ ap (λ m. take m buffer) (omega arith)
+    ]
 
 -- a piece that is within the limit was answered
-pub Going-more : {left left' left'' written written' written'' : Option (List ℕ)} {given given' given'' room : ℕ} {refused some : Bool} {reading reading' : Reading} {state state' : State}
-    → Going left left' written written' given given' room refused reading state
-    → (buffer : List ℕ) (n k : ℕ) → n ≤ length buffer → n ≤ room → k ≡ n → Consumes left' left'' (take n buffer)
-    → given'' ≡ min (given' + n) last_count → AnswersBytes (take k buffer) written' written'' (Ok some) reading state reading' state'
-    → Going left left'' written written'' given given'' (room - n) (refused || some) reading' state'
-Going-more {refused = refused} {some = some} {reading' = reading'} {state' = state'} g buffer n k bound fits is taken count a = record {
+pub Going-more : {begin : Ends} {left left' : Option (List ℕ)} {given given' given'' room : ℕ} {refused some : Bool} {point point' : Point}
+    → Going begin left given given' room refused point
+    → (buffer : List ℕ) (n k : ℕ) → n ≤ length buffer → n ≤ room → k ≡ n → Consumes left left' (take n buffer)
+    → given'' ≡ min (given' + n) last_count → AnswersBytes (take k buffer) point point' (Ok some)
+    → Going begin left' given given'' (room - n) (refused || some) point'
+Going-more {refused = refused} {some = some} {point' = point'} g buffer n k bound fits is taken count a = record {
   bytes = g.bytes ++ take n buffer;
   text = g.text ++ a.text;
   taken = Consumes-trans _ _ _ g.bytes (take n buffer) g.taken taken;
   added = Appends-trans _ _ _ g.text a.text g.added a.added;
   size = omega (arith, length-append g.bytes (take n buffer), length-take-le n buffer bound, g.size);
-  stands = subst (λ m. Stands (g.bytes ++ take m buffer) (g.text ++ a.text) (refused || some) reading' state') is (a.advances g.bytes g.text refused g.stands);
+  stands = subst (λ m. Stands (g.bytes ++ take m buffer) (g.text ++ a.text) (refused || some) point') is (a.advances g.bytes g.text refused g.stands);
   count = λ small. omega (arith, length-append g.bytes (take n buffer), length-take-le n buffer bound, g.size, g.count small, count);
 }
 
 -- a read failed
-pub Runs-read_fault : {left left' left'' written written' : Option (List ℕ)} {given given' room : ℕ} {refused : Bool} {reading : Reading} {state : State}
-    → Going left left' written written' given given' room refused reading state
-    → Keeps left' left'' → Runs left left'' written written' ReadFault
+pub Runs-read_fault : {begin : Ends} {left left' : Option (List ℕ)} {given given' room : ℕ} {refused : Bool} {point : Point}
+    → Going begin left given given' room refused point → Keeps left left'
+    → RunsScript begin (record { left = left'; written = point.written }) ReadFault
 Runs-read_fault g kept = record {
   bytes = g.bytes;
   text = g.text;
@@ -91,37 +101,31 @@ Runs-read_fault g kept = record {
   leaves = (omega (arith, g.size), (_, record { last = _; conversation = g.stands.conversation }));
 }
 
--- the run stopped in a piece: all of the piece was taken
-pub Runs-stopped : {left left' left'' written written' written'' : Option (List ℕ)} {given given' room : ℕ} {refused : Bool} {reading reading' : Reading} {state state' : State}
-    → Going left left' written written' given given' room refused reading state
-    → (buffer : List ℕ) (n k : ℕ) (why : Stop) → k ≤ n → Consumes left' left'' (take n buffer)
-    → AnswersBytes (take k buffer) written' written'' (Err why) reading state reading' state'
-    → Runs left left'' written written'' (status_of why)
-Runs-stopped {left'' = left''} g buffer n k why within taken a =
-    let split : take k buffer ++ drop k (take n buffer) ≡ take n buffer =
-    ap (λ l. l ++ drop k (take n buffer)) (sym (take-take k n buffer within)) ∙ take-append-drop k (take n buffer) in
-    let all : g.bytes ++ take k buffer ++ drop k (take n buffer) ≡ g.bytes ++ take n buffer =
-    append_assoc g.bytes (take k buffer) (drop k (take n buffer)) ∙ ap (λ l. g.bytes ++ l) split in
-    let stops : (rest : List ℕ) → Stops why (g.bytes ++ take n buffer ++ rest) (g.text ++ a.text) =
-    λ rest. subst (λ l. Stops why l (g.text ++ a.text)) (sym (append_assoc (g.bytes ++ take k buffer) (drop k (take n buffer)) rest) ∙ ap (λ l. l ++ rest) all)
-    (a.advances g.bytes g.text _ g.stands (drop k (take n buffer) ++ rest)) in
+-- the run stopped in a piece, all of which was taken
+pub Runs-stopped : {begin : Ends} {left left' : Option (List ℕ)} {given given' room : ℕ} {refused : Bool} {point point' : Point}
+    → Going begin left given given' room refused point
+    → (buffer : List ℕ) (n k : ℕ) (why : Stop) → n ≤ length buffer → k ≡ min n room → Consumes left left' (take n buffer)
+    → AnswersBytes (take k buffer) point point' (Err why)
+    → RunsScript begin (record { left = left'; written = point'.written }) (status_of why)
+Runs-stopped {left' = left'} {room = room} {refused = refused} g buffer n k why bound is taken a =
+    let s : Stops why (lines (whole (g.bytes ++ take k buffer))) (g.text ++ a.text) = a.advances g.bytes g.text refused g.stands in
     record {
       bytes = g.bytes ++ take n buffer;
       text = g.text ++ a.text;
       taken = Consumes-trans _ _ _ g.bytes (take n buffer) g.taken taken;
       added = Appends-trans _ _ _ g.text a.text g.added a.added;
-      leaves = leaves-stopped why (g.bytes ++ take n buffer) (g.text ++ a.text) left'' stops;
+      leaves =
+          leaves-stopped why (g.bytes ++ take n buffer) (g.text ++ a.text) left' (lines (whole (g.bytes ++ take k buffer)))
+          (inl (ap (λ l. lines (whole l)) (sym (within-limit g.bytes buffer room n k g.size bound is)))) s;
     }
 
 -- a piece passed the limit: its bytes within the limit were answered
-pub Runs-too_long : {left left' left'' written written' written'' : Option (List ℕ)} {given given' room : ℕ} {refused some : Bool} {reading reading' : Reading} {state state' : State}
-    → Going left left' written written' given given' room refused reading state
-    → (buffer : List ℕ) (n k : ℕ) → n ≤ length buffer → room < n → k ≡ room → Consumes left' left'' (take n buffer)
-    → AnswersBytes (take k buffer) written' written'' (Ok some) reading state reading' state'
-    → Runs left left'' written written'' TooLong
+pub Runs-too_long : {begin : Ends} {left left' : Option (List ℕ)} {given given' room : ℕ} {refused some : Bool} {point point' : Point}
+    → Going begin left given given' room refused point
+    → (buffer : List ℕ) (n k : ℕ) → n ≤ length buffer → room < n → k ≡ min n room → Consumes left left' (take n buffer)
+    → AnswersBytes (take k buffer) point point' (Ok some)
+    → RunsScript begin (record { left = left'; written = point'.written }) TooLong
 Runs-too_long {room = room} {refused = refused} {some = some} g buffer n k bound over is taken a =
-    let cut : take script_limit (g.bytes ++ take n buffer) ≡ g.bytes ++ take k buffer =
-    ap (λ m. take m (g.bytes ++ take n buffer)) (sym g.size) ∙ take-append-add g.bytes (take n buffer) room ∙ ap (λ l. g.bytes ++ l) (take-take room n buffer (omega arith) ∙ ap (λ m. take m buffer) (sym is)) in
     let s = a.advances g.bytes g.text refused g.stands in
     record {
       bytes = g.bytes ++ take n buffer;
@@ -130,34 +134,42 @@ Runs-too_long {room = room} {refused = refused} {some = some} g buffer n k bound
       added = Appends-trans _ _ _ g.text a.text g.added a.added;
       leaves = (
         omega (arith, length-append g.bytes (take n buffer), length-take-le n buffer bound, g.size),
-        (refused || some, subst (λ l. Transcript (whole l) (g.text ++ a.text) (refused || some)) (sym cut) (record { last = _; conversation = s.conversation })),
+        (
+          refused || some,
+          subst (λ l. Transcript (whole l) (g.text ++ a.text) (refused || some))
+              (sym (within-limit g.bytes buffer room n k g.size bound is)) (record { last = _; conversation = s.conversation }),
+        ),
       );
     }
 
 -- the end of the input was answered
-pub Runs-ended : {left left' left'' written written' written'' : Option (List ℕ)} {given given' room : ℕ} {refused : Bool} {reading : Reading} {state : State}
-    → Going left left' written written' given given' room refused reading state
-    → (result : Status) → Consumes left' left'' [] → IsAtEnd left'' → EndsRun written' written'' refused result reading state
-    → Runs left left'' written written'' result
-Runs-ended {left = left} {left'' = left''} g result taken end e = record {
+pub Runs-ended : {begin : Ends} {left left' written : Option (List ℕ)} {given given' room : ℕ} {refused : Bool} {point : Point}
+    → Going begin left given given' room refused point
+    → (result : Status) → Consumes left left' [] → IsAtEnd left' → EndsRun point written refused result
+    → RunsScript begin (record { left = left'; written = written }) result
+Runs-ended {begin = begin} {left' = left'} g result taken end e = record {
   bytes = g.bytes;
   text = g.text ++ e.text;
-  taken = subst (Consumes left left'') (append-nil g.bytes) (Consumes-trans _ _ _ g.bytes [] g.taken taken);
+  taken = subst (Consumes begin.left left') (append-nil g.bytes) (Consumes-trans _ _ _ g.bytes [] g.taken taken);
   added = Appends-trans _ _ _ g.text e.text g.added e.added;
-  leaves = leaves-completed result g.bytes (g.text ++ e.text) left'' end (omega (arith, g.size)) (e.completes g.bytes g.text g.stands);
+  leaves = leaves-completed result g.bytes (g.text ++ e.text) left' end (omega (arith, g.size)) (e.completes g.bytes g.text g.stands);
 }
 
 -- no memory before the first read
-pub Runs-no_memory : (left written : Option (List ℕ)) → Runs left left written written NoMemory
-Runs-no_memory left written = record {
+pub Runs-no_memory : (ends : Ends) → RunsScript ends ends NoMemory
+Runs-no_memory ends = record {
   bytes = [];
   text = [];
-  taken = Consumes-nil left;
-  added = Appends-nil written;
-  leaves = record {
-    count = 0;
-    refused = false;
-    last = empty_state;
-    conversation = Conversation-nil empty_state;
-  };
+  taken = Consumes-nil ends.left;
+  added = Appends-nil ends.written;
+  leaves = (
+    lines (whole (take SCRIPT_LIMIT [])),
+    inl refl,
+    record {
+      count = 0;
+      refused = false;
+      last = empty_state;
+      conversation = Conversation-nil empty_state;
+    },
+  );
 }

@@ -1,30 +1,28 @@
 -- How answers that stand go on: by a byte, by the line that it ends, and at the end of the input.
-use Rattle.std.proofs.Common.{◌≡◌, ◌≢◌, ℕ, ◌+◌, ◌<◌, Bool, true, false, ◌||◌, ◌⊎◌, inl, inr, List, [], ◌∷◌, ◌++◌, length, take, drop, get_or, Option, Some, Result, Ok, Err, refl, sym, ap, ◌∙◌, subst, arith, append-nil, append_assoc}
+use Rattle.std.proofs.Common.{◌≡◌, ◌≢◌, ℕ, ◌+◌, ◌<◌, min, Bool, false, ◌||◌, ◌⊎◌, eqb, inl, inr, List, [], ◌∷◌, ◌++◌, length, take, drop, get_or, Some, Result, Ok, Err, refl, sym, ap, ◌∙◌, subst, arith, append-nil, append_assoc}
+use Rattle.std.proofs.Math.Bool.{or-false, or_assoc}
 use Rattle.std.proofs.Math.Seq.{take-append-add}
 use Rattle.std.proofs.KnownBytes.{Appends-nil, Appends-trans}
-use Rattle.std.proofs.lemmas.List.{take_all, take_more, take-append-drop}
-use Rattle.uhura_text.specs.Lines.{lines, whole, behind, shown}
+use Rattle.std.proofs.lemmas.Bool.{cases_Bool, cases_lt}
+use Rattle.std.proofs.lemmas.List.{take_all, take_at, take_more, take-take, take-append-drop, length-take}
+use Rattle.uhura_text.specs.Lines.{lines, whole, behind, shown, before_newline}
 use Rattle.uhura_text.specs.Reading.{Reading, HandsOver, Feeds, Finishes}
 use Rattle.uhura_text.specs.declared.lines.Fed.{Fed}
 use Rattle.uhura_text.specs.declared.lines.Fed.TheVariants.{More, Line, Long}
-use Rattle.uhura_text.proofs.Growing.{lines-nil, whole-push_other, behind-push_newline, behind-push_other, lines-push_newline, lines-finished, lines-unfinished, take-lines_append, shown-take, take-take_push, nil-from_take}
+use Rattle.uhura_text.proofs.Growing.{lines-nil, lines-whole_append, whole-behind, whole-push_other, behind-push_newline, behind-push_other, lines-push_newline, lines-finished, lines-unfinished, shown-take, take-take_push, nil-from_take}
 use Rattle.uhura_veto.specs.State.{State}
 use Rattle.uhura_command.specs.State.{empty_state}
 use Rattle.uhura_session.specs.Answers.{Answers}
 use Rattle.uhura_session.specs.Transcript.{Conversation}
 use Rattle.uhura_session.proofs.Conversing.{Conversation-nil, Conversation-push}
-use Rattle.uhura.specs.Run.{AnswersFirstLines, IsFrontOfTranscript}
-use Rattle.uhura.specs.Script.{AnswersLine, Stops, Stands, AnswersBytes, AnswersEnd}
+use Rattle.uhura.specs.Run.{AnswersFirst, IsFrontOfAnswers}
+use Rattle.uhura.specs.Script.{Talk, Point, AnswersLine, Stops, Stands, AnswersBytes, AnswersEnd}
 use Rattle.uhura.specs.declared.script.Stop.{Stop}
 use Rattle.uhura.specs.declared.script.Stop.TheVariants.{WriteFault, NoMemory}
 
-or-false : (b : Bool) → b ≡ (b || false)
-or-false true = refl
-or-false false = refl
-
 -- before the first byte nothing is answered
-pub Stands-nil : (reading : Reading) (state : State) → reading.held ≡ [] → state ≡ empty_state → Stands [] [] false reading state
-Stands-nil reading state fresh begins = record {
+pub Stands-nil : (point : Point) → point.reading.held ≡ [] → point.state ≡ empty_state → Stands [] [] false point
+Stands-nil point fresh begins = record {
   held = fresh;
   conversation = rw (lines-nil, begins) (Conversation-nil empty_state);
 }
@@ -32,72 +30,118 @@ Stands-nil reading state fresh begins = record {
 -- ---- one byte
 
 -- another byte than a newline is held
-pub Stands-other : (bytes past : List ℕ) (refused : Bool) (old new : Reading) (state : State) (byte : ℕ)
-    → byte ≢ 10 → new.held ≡ take 4097 (old.held ++ byte ∷ []) → Stands bytes past refused old state
-    → Stands (bytes ++ byte ∷ []) (past ++ []) (refused || false) new state
-Stands-other bytes past refused old new state byte other held s = record {
+pub Stands-other : (bytes past : List ℕ) (refused : Bool) (old new : Point) (byte : ℕ)
+    → byte ≢ 10 → new.reading.held ≡ take 4097 (old.reading.held ++ byte ∷ []) → new.state ≡ old.state → Stands bytes past refused old
+    → Stands (bytes ++ byte ∷ []) (past ++ []) (refused || false) new
+Stands-other bytes past refused old new byte other held kept s = record {
   held = held ∙ ap (λ l. take 4097 (l ++ byte ∷ [])) s.held ∙ take-take_push (behind bytes) byte ∙ ap (take 4097) (sym (behind-push_other bytes byte other));
-  conversation = rw (whole-push_other bytes byte other, append-nil past, ← or-false refused) s.conversation;
+  conversation = rw (whole-push_other bytes byte other, append-nil past, or-false refused, kept) s.conversation;
 }
 
 -- the line that was held is the one behind the bytes so far
-held_line : (bytes past : List ℕ) (refused : Bool) (reading : Reading) (state : State) → Stands bytes past refused reading state → shown reading.held ≡ shown (behind bytes)
-held_line bytes past refused reading state s = ap shown s.held ∙ shown-take (behind bytes)
+held_line : (bytes past : List ℕ) (refused : Bool) (point : Point) → Stands bytes past refused point → shown point.reading.held ≡ shown (behind bytes)
+held_line bytes past refused point s = ap shown s.held ∙ shown-take (behind bytes)
 
 -- the answer to the line behind the bytes goes on with the conversation over their whole part
-pub answered : (bytes past : List ℕ) (refused : Bool) (reading : Reading) (state last : State) (answer : List ℕ) (some : Bool)
-    → Stands bytes past refused reading state → Answers state (shown reading.held) answer some last
+pub answered : (bytes past : List ℕ) (refused : Bool) (point : Point) (last : State) (answer : List ℕ) (some : Bool)
+    → Stands bytes past refused point → Answers point.state (shown point.reading.held) answer some last
     → Conversation empty_state (lines (whole bytes) ++ shown (behind bytes) ∷ []) (past ++ answer) (refused || some) last
-answered bytes past refused reading state last answer some s a =
-    Conversation-push (lines (whole bytes)) empty_state state last (shown (behind bytes)) past answer refused some s.conversation
-    (subst (λ l. Answers state l answer some last) (held_line bytes past refused reading state s) a)
+answered bytes past refused point last answer some s a =
+    Conversation-push (lines (whole bytes)) empty_state point.state last (shown (behind bytes)) past answer refused some s.conversation
+    (subst (λ l. Answers point.state l answer some last) (held_line bytes past refused point s) a)
 
 -- a newline ends the held line, which is answered
-pub Stands-newline : (bytes past : List ℕ) (refused : Bool) (old new : Reading) (state last : State) (answer : List ℕ) (some : Bool)
-    → new.held ≡ [] → Answers state (shown old.held) answer some last → Stands bytes past refused old state
-    → Stands (bytes ++ 10 ∷ []) (past ++ answer) (refused || some) new last
-Stands-newline bytes past refused old new state last answer some empty a s = record {
+pub Stands-newline : (bytes past : List ℕ) (refused : Bool) (old new : Point) (answer : List ℕ) (some : Bool)
+    → new.reading.held ≡ [] → Answers old.state (shown old.reading.held) answer some new.state → Stands bytes past refused old
+    → Stands (bytes ++ 10 ∷ []) (past ++ answer) (refused || some) new
+Stands-newline bytes past refused old new answer some empty a s = record {
   held = empty ∙ ap (take 4097) (sym (behind-push_newline bytes));
-  conversation = rw (lines-push_newline bytes) (answered bytes past refused old state last answer some s a);
+  conversation = rw (lines-push_newline bytes) (answered bytes past refused old new.state answer some s a);
 }
 
--- ---- a run that ends early
+-- ---- a run that stops
 
--- what stands answered is the answers to the first lines of all bytes that begin with these
-first-standing : (bytes past : List ℕ) (refused : Bool) (reading : Reading) (state : State) (rest : List ℕ)
-    → Stands bytes past refused reading state → AnswersFirstLines (bytes ++ rest) past
-first-standing bytes past refused reading state rest s = record {
+-- the lines that stand answered, and one more: the conversation so far is the answers to the first of them
+first-standing : (bytes past : List ℕ) (refused : Bool) (point : Point) (ls more : List (List ℕ)) → ls ≡ lines (whole bytes) ++ more
+    → Stands bytes past refused point → AnswersFirst ls past
+first-standing bytes past refused point ls more is s = record {
   count = length (lines (whole bytes));
   refused = refused;
-  last = state;
-  conversation = rw (take-lines_append bytes rest) s.conversation;
+  last = point.state;
+  conversation = rw (is, take_at (lines (whole bytes)) more (length (lines (whole bytes))) refl) s.conversation;
 }
 
--- a front of an answer, behind the answers before it
-front-answer : (bytes past : List ℕ) (refused : Bool) (reading : Reading) (state last : State) (answer : List ℕ) (some : Bool) (n : ℕ) (all : List ℕ) (count : ℕ)
-    → take count (lines all) ≡ lines (whole bytes) ++ shown (behind bytes) ∷ []
-    → Stands bytes past refused reading state → Answers state (shown reading.held) answer some last
-    → IsFrontOfTranscript all (past ++ take n answer)
-front-answer bytes past refused reading state last answer some n all count is s a = record {
+-- a front of the answer to the last line, behind the answers before it
+front-answer : (bytes past : List ℕ) (refused : Bool) (point : Point) (last : State) (answer : List ℕ) (some : Bool) (n : ℕ) (ls : List (List ℕ))
+    → ls ≡ lines (whole bytes) ++ shown (behind bytes) ∷ []
+    → Stands bytes past refused point → Answers point.state (shown point.reading.held) answer some last
+    → IsFrontOfAnswers ls (past ++ take n answer)
+front-answer bytes past refused point last answer some n ls is s a = record {
   answers = past ++ answer;
   answered = record {
-    count = count;
+    count = length ls;
     refused = refused || some;
     last = last;
-    conversation = rw is (answered bytes past refused reading state last answer some s a);
+    conversation = rw (take_all (length ls) ls (omega arith), is) (answered bytes past refused point last answer some s a);
   };
   front = (length past + n, sym (take-append-add past answer n));
 }
 
+-- the answers to the first of the first lines are answers to the first lines
+take-take-min : (m n : ℕ) (ls : List (List ℕ)) → take m (take n ls) ≡ take (min m n) ls
+take-take-min m n ls = elim (cases_lt n m) [
+  | inl more ↦ take_all m (take n ls) (omega (arith, length-take n ls)) ∙ ap (λ k. take k ls) (omega arith)
+  | inr less ↦ take-take m n ls less ∙ ap (λ k. take k ls) (omega arith)
+]
+
+first-of_first : (n : ℕ) (ls : List (List ℕ)) (text : List ℕ) → AnswersFirst (take n ls) text → AnswersFirst ls text
+first-of_first n ls text a = record {
+  count = min a.count n;
+  refused = a.refused;
+  last = a.last;
+  conversation = rw (← take-take-min a.count n ls) a.conversation;
+}
+
+stops-further : (why : Stop) (n : ℕ) (ls : List (List ℕ)) (text : List ℕ) → Stops why (take n ls) text → Stops why ls text
+stops-further WriteFault n ls text s = record { answers = s.answers; answered = first-of_first n ls s.answers s.answered; front = s.front }
+stops-further NoMemory n ls text s = first-of_first n ls text s
+
+-- ---- bytes behind the whole part
+
+wholes_at : (b : ℕ) (w ys : List ℕ) → eqb b 10 ≡ false → whole (w ++ ys) ≡ w ++ whole ys → whole (before_newline b w ++ ys) ≡ before_newline b w ++ whole ys
+wholes_at b [] ys e h = refl
+wholes_at b (c ∷ cs) ys e h = rw e (ap (before_newline b) h)
+
+-- what is whole of the whole part and some bytes
+whole-whole_append : (bs ys : List ℕ) → whole (whole bs ++ ys) ≡ whole bs ++ whole ys
+whole-whole_append [] ys = refl
+whole-whole_append (b ∷ bs) ys = elim (cases_Bool (eqb b 10)) [
+  | inl e ↦ rw (e, e) (ap (λ l. b ∷ l) (whole-whole_append bs ys))
+  | inr e ↦ rw e (wholes_at b (whole bs) ys e (whole-whole_append bs ys))
+]
+
+-- the whole lines of some bytes are the first whole lines of these and more
+take-lines_whole : (bs more : List ℕ) → take (length (lines (whole bs))) (lines (whole (bs ++ more))) ≡ lines (whole bs)
+take-lines_whole bs more =
+    let all : bs ++ more ≡ whole bs ++ (behind bs ++ more) = ap (λ l. l ++ more) (whole-behind bs) ∙ append_assoc (whole bs) (behind bs) more in
+    let split : lines (whole (bs ++ more)) ≡ lines (whole bs) ++ lines (whole (behind bs ++ more)) =
+    ap (λ l. lines (whole l)) all ∙ ap lines (whole-whole_append bs (behind bs ++ more)) ∙ lines-whole_append bs (whole (behind bs ++ more)) in
+    ap (take (length (lines (whole bs)))) split ∙ take_at (lines (whole bs)) (lines (whole (behind bs ++ more))) (length (lines (whole bs))) refl
+
+-- a run that stopped at the whole lines of some bytes stopped at those of these and more
+stops-behind : (why : Stop) (bytes more text : List ℕ) → Stops why (lines (whole bytes)) text → Stops why (lines (whole (bytes ++ more))) text
+stops-behind why bytes more text s =
+    stops-further why (length (lines (whole bytes))) (lines (whole (bytes ++ more))) text (subst (λ ls. Stops why ls text) (sym (take-lines_whole bytes more)) s)
+
 -- ---- a byte that was fed
 
 -- it ended no line
-pub bytes-other : (before : Option (List ℕ)) (old new : Reading) (state : State) (byte : ℕ) → Feeds old byte More new
-    → AnswersBytes (byte ∷ []) before before (Ok false) old state new state
-bytes-other before old new state byte f = record {
+pub bytes-other : (old new : Point) (byte : ℕ) → Feeds old.reading byte More new.reading → new.state ≡ old.state → new.written ≡ old.written
+    → AnswersBytes (byte ∷ []) old new (Ok false)
+bytes-other old new byte f kept said = record {
   text = [];
-  added = Appends-nil before;
-  advances = λ bytes past refused s. Stands-other bytes past refused old new state byte f.0 f.1 s;
+  added = rw said (Appends-nil old.written);
+  advances = λ bytes past refused s. Stands-other bytes past refused old new byte f.0 f.1 kept s;
 }
 
 -- a byte that ended a line is a newline, and handed the line over
@@ -111,50 +155,52 @@ feeds-line old new byte Long h f = (f.0, f.1.1)
 pub lent-line : (old new : Reading) (line : List ℕ) → HandsOver old new → new.line ≡ Some line → line ≡ shown old.held
 lent-line old new line h lent = let e : Some line ≡ Some (shown old.held) = sym lent ∙ h.1 in cc
 
+-- what was said so far
+abbrev talk_of : Point → Talk
+talk_of p = record { state = p.state; written = p.written }
+
 -- it ended a line, which was answered, or not
-pub bytes-newline : (before after : Option (List ℕ)) (old new : Reading) (state next : State) (line : List ℕ) (result : Result Bool Stop)
-    → HandsOver old new → line ≡ shown old.held → AnswersLine state line before result next after
-    → AnswersBytes (10 ∷ []) before after result old state new next
-bytes-newline before after old new state next line (Ok some) h is a = record {
+pub bytes-newline : (old new : Point) (line : List ℕ) (result : Result Bool Stop)
+    → HandsOver old.reading new.reading → line ≡ shown old.reading.held → AnswersLine line (talk_of old) result (talk_of new)
+    → AnswersBytes (10 ∷ []) old new result
+bytes-newline old new line (Ok some) h is a = record {
   text = a.0;
   added = a.2;
-  advances = λ bytes past refused s. Stands-newline bytes past refused old new state next a.0 some h.0 (subst (λ l. Answers state l a.0 some next) is a.1) s;
+  advances = λ bytes past refused s. Stands-newline bytes past refused old new a.0 some h.0 (subst (λ l. Answers old.state l a.0 some new.state) is a.1) s;
 }
-bytes-newline before after old new state next line (Err WriteFault) h is a = record {
+bytes-newline old new line (Err WriteFault) h is a = record {
   text = take a.2.0 a.0;
   added = a.2.2;
-  advances = λ bytes past refused s rest.
-      front-answer bytes past refused old state a.1.1 a.0 a.1.0 a.2.0 (bytes ++ 10 ∷ [] ++ rest)
-      (length (lines (whole (bytes ++ 10 ∷ [])))) (take-lines_append (bytes ++ 10 ∷ []) rest ∙ lines-push_newline bytes)
-      s (subst (λ l. Answers state l a.0 a.1.0 a.1.1) is a.1.2);
+  advances = λ bytes past refused s.
+      front-answer bytes past refused old a.1.1 a.0 a.1.0 a.2.0 (lines (whole (bytes ++ 10 ∷ []))) (lines-push_newline bytes)
+      s (subst (λ l. Answers old.state l a.0 a.1.0 a.1.1) is a.1.2);
 }
-bytes-newline before after old new state next line (Err NoMemory) h is a = record {
+bytes-newline old new line (Err NoMemory) h is a = record {
   text = [];
   added = a;
-  advances = λ bytes past refused s rest.
-      rw (append-nil past, append_assoc bytes (10 ∷ []) rest) (first-standing bytes past refused old state (10 ∷ [] ++ rest) s);
+  advances = λ bytes past refused s.
+      rw (append-nil past) (first-standing bytes past refused old (lines (whole (bytes ++ 10 ∷ []))) (shown (behind bytes) ∷ []) (lines-push_newline bytes) s);
 }
 
 -- the same of the byte as it was fed
-pub bytes-line : (before after : Option (List ℕ)) (old new : Reading) (state next : State) (byte : ℕ) (fed : Fed) (line : List ℕ) (result : Result Bool Stop)
-    → (fed ≡ Line) ⊎ (fed ≡ Long) → Feeds old byte fed new → new.line ≡ Some line → AnswersLine state line before result next after
-    → AnswersBytes (byte ∷ []) before after result old state new next
-bytes-line before after old new state next byte fed line result ended f lent a =
-    let h = feeds-line old new byte fed ended f in
-    subst (λ b. AnswersBytes (b ∷ []) before after result old state new next) (sym h.0)
-    (bytes-newline before after old new state next line result h.1 (lent-line old new line h.1 lent) a)
+pub bytes-line : (old new : Point) (byte : ℕ) (fed : Fed) (line : List ℕ) (result : Result Bool Stop)
+    → (fed ≡ Line) ⊎ (fed ≡ Long) → Feeds old.reading byte fed new.reading → new.reading.line ≡ Some line
+    → AnswersLine line (talk_of old) result (talk_of new) → AnswersBytes (byte ∷ []) old new result
+bytes-line old new byte fed line result ended f lent a =
+    let h = feeds-line old.reading new.reading byte fed ended f in
+    subst (λ b. AnswersBytes (b ∷ []) old new result) (sym h.0)
+    (bytes-newline old new line result h.1 (lent-line old.reading new.reading line h.1 lent) a)
 
 -- ---- the end of the input
 
 -- no byte is behind the last newline
-pub end-none : (before : Option (List ℕ)) (old new : Reading) (state : State) → Finishes old More new
-    → AnswersEnd before before (Ok false) old state
-end-none before old new state f = record {
+pub end-none : (old : Point) (new : Reading) → Finishes old.reading More new → AnswersEnd old old.written (Ok false)
+end-none old new f = record {
   text = [];
-  added = Appends-nil before;
+  added = Appends-nil old.written;
   completes = λ bytes past refused s. record {
-    last = state;
-    conversation = rw (lines-finished bytes (nil-from_take (behind bytes) (sym s.held ∙ f.0)), append-nil past, ← or-false refused) s.conversation;
+    last = old.state;
+    conversation = rw (lines-finished bytes (nil-from_take (behind bytes) (sym s.held ∙ f.0)), append-nil past, or-false refused) s.conversation;
   };
 }
 
@@ -166,84 +212,69 @@ finishes-line old new Line h f = (f.0, f.1.1)
 finishes-line old new Long h f = (f.0, f.1.1)
 
 -- a byte that is held is behind the last newline
-behind-some : (bytes past : List ℕ) (refused : Bool) (reading : Reading) (state : State) → reading.held ≢ [] → Stands bytes past refused reading state → behind bytes ≢ []
-behind-some bytes past refused reading state some s = λ none. some (s.held ∙ ap (take 4097) none)
+behind-some : (bytes past : List ℕ) (refused : Bool) (point : Point) → point.reading.held ≢ [] → Stands bytes past refused point → behind bytes ≢ []
+behind-some bytes past refused point some s = λ none. some (s.held ∙ ap (take 4097) none)
 
 -- the unfinished line was answered, or not
-pub end-line : (before after : Option (List ℕ)) (old : Reading) (state next : State) (line : List ℕ) (result : Result Bool Stop)
-    → old.held ≢ [] → line ≡ shown old.held → AnswersLine state line before result next after
-    → AnswersEnd before after result old state
-end-line before after old state next line (Ok refused) some is a = record {
+pub end-line : (old : Point) (next : Talk) (line : List ℕ) (result : Result Bool Stop)
+    → old.reading.held ≢ [] → line ≡ shown old.reading.held → AnswersLine line (talk_of old) result next
+    → AnswersEnd old next.written result
+end-line old next line (Ok refused) some is a = record {
   text = a.0;
   added = a.2;
   completes = λ bytes past any s. record {
-    last = next;
-    conversation = rw (lines-unfinished bytes (behind-some bytes past any old state some s))
-        (answered bytes past any old state next a.0 refused s (subst (λ l. Answers state l a.0 refused next) is a.1));
+    last = next.state;
+    conversation = rw (lines-unfinished bytes (behind-some bytes past any old some s))
+        (answered bytes past any old next.state a.0 refused s (subst (λ l. Answers old.state l a.0 refused next.state) is a.1));
   };
 }
-end-line before after old state next line (Err WriteFault) some is a = record {
+end-line old next line (Err WriteFault) some is a = record {
   text = take a.2.0 a.0;
   added = a.2.2;
   completes = λ bytes past refused s.
-      front-answer bytes past refused old state a.1.1 a.0 a.1.0 a.2.0 bytes
-      (length (lines bytes)) (take_all (length (lines bytes)) (lines bytes) (omega arith) ∙ lines-unfinished bytes (behind-some bytes past refused old state some s))
-      s (subst (λ l. Answers state l a.0 a.1.0 a.1.1) is a.1.2);
+      front-answer bytes past refused old a.1.1 a.0 a.1.0 a.2.0 (lines bytes) (lines-unfinished bytes (behind-some bytes past refused old some s))
+      s (subst (λ l. Answers old.state l a.0 a.1.0 a.1.1) is a.1.2);
 }
-end-line before after old state next line (Err NoMemory) some is a = record {
+end-line old next line (Err NoMemory) some is a = record {
   text = [];
   added = a;
   completes = λ bytes past refused s.
-      let first : AnswersFirstLines (bytes ++ []) past = first-standing bytes past refused old state [] s in
-      rw (append-nil past) (rw append-nil at first);
+      rw (append-nil past) (first-standing bytes past refused old (lines bytes) (shown (behind bytes) ∷ []) (lines-unfinished bytes (behind-some bytes past refused old some s)) s);
 }
 
 -- the same of the end as it was told
-pub end-ended : (before after : Option (List ℕ)) (old new : Reading) (state next : State) (fed : Fed) (line : List ℕ) (result : Result Bool Stop)
-    → (fed ≡ Line) ⊎ (fed ≡ Long) → Finishes old fed new → new.line ≡ Some line → AnswersLine state line before result next after
-    → AnswersEnd before after result old state
-end-ended before after old new state next fed line result ended f lent a =
-    let h = finishes-line old new fed ended f in
-    end-line before after old state next line result h.0 (lent-line old new line h.1 lent) a
+pub end-ended : (old : Point) (new : Reading) (next : Talk) (fed : Fed) (line : List ℕ) (result : Result Bool Stop)
+    → (fed ≡ Line) ⊎ (fed ≡ Long) → Finishes old.reading fed new → new.line ≡ Some line → AnswersLine line (talk_of old) result next
+    → AnswersEnd old next.written result
+end-ended old new next fed line result ended f lent a =
+    let h = finishes-line old.reading new fed ended f in
+    end-line old next line result h.0 (lent-line old.reading new line h.1 lent) a
 
 -- ---- bytes one after another
 
-or_assoc : (a b c : Bool) → ((a || b) || c) ≡ (a || (b || c))
-or_assoc true b c = refl
-or_assoc false b c = refl
-
--- no bytes change nothing
-pub bytes-nil : (before : Option (List ℕ)) (reading : Reading) (state : State) → AnswersBytes [] before before (Ok false) reading state reading state
-bytes-nil before reading state = record {
-  text = [];
-  added = Appends-nil before;
-  advances = λ bytes past refused s. rw (append-nil bytes, append-nil past, ← or-false refused) s;
-}
-
 -- bytes that were answered, and then more that were
-pub bytes-append : (xs ys : List ℕ) (first second third : Option (List ℕ)) (some other : Bool) (r₁ r₂ r₃ : Reading) (s₁ s₂ s₃ : State)
-    → AnswersBytes xs first second (Ok some) r₁ s₁ r₂ s₂ → AnswersBytes ys second third (Ok other) r₂ s₂ r₃ s₃
-    → AnswersBytes (xs ++ ys) first third (Ok (some || other)) r₁ s₁ r₃ s₃
-bytes-append xs ys first second third some other r₁ r₂ r₃ s₁ s₂ s₃ a b = record {
+pub bytes-append : (xs ys : List ℕ) (first second third : Point) (some other : Bool)
+    → AnswersBytes xs first second (Ok some) → AnswersBytes ys second third (Ok other) → AnswersBytes (xs ++ ys) first third (Ok (some || other))
+bytes-append xs ys first second third some other a b = record {
   text = a.text ++ b.text;
-  added = Appends-trans first second third a.text b.text a.added b.added;
+  added = Appends-trans first.written second.written third.written a.text b.text a.added b.added;
   advances = λ bytes past refused s.
       rw (← append_assoc bytes xs ys, ← append_assoc past a.text b.text, ← or_assoc refused some other)
       (b.advances (bytes ++ xs) (past ++ a.text) (refused || some) (a.advances bytes past refused s));
 }
 
--- bytes that were answered, and then more at which the run stopped
-pub bytes-stopped : (xs ys zs : List ℕ) (first second third : Option (List ℕ)) (some : Bool) (stop : Stop) (r₁ r₂ r₃ : Reading) (s₁ s₂ s₃ : State)
-    → AnswersBytes xs first second (Ok some) r₁ s₁ r₂ s₂ → AnswersBytes ys second third (Err stop) r₂ s₂ r₃ s₃
-    → AnswersBytes (xs ++ ys ++ zs) first third (Err stop) r₁ s₁ r₃ s₃
-bytes-stopped xs ys zs first second third some stop r₁ r₂ r₃ s₁ s₂ s₃ a b = record {
+-- bytes that were answered, then more at which the run stopped, and others behind them
+pub bytes-stopped : (xs ys zs : List ℕ) (first second third : Point) (some : Bool) (stop : Stop)
+    → AnswersBytes xs first second (Ok some) → AnswersBytes ys second third (Err stop) → AnswersBytes (xs ++ ys ++ zs) first third (Err stop)
+bytes-stopped xs ys zs first second third some stop a b = record {
   text = a.text ++ b.text;
-  added = Appends-trans first second third a.text b.text a.added b.added;
-  advances = λ bytes past refused s rest.
-      let stops = b.advances (bytes ++ xs) (past ++ a.text) (refused || some) (a.advances bytes past refused s) (zs ++ rest) in
-      let all : (bytes ++ xs) ++ ys ++ (zs ++ rest) ≡ bytes ++ (xs ++ ys ++ zs) ++ rest = simp append_assoc in
+  added = Appends-trans first.written second.written third.written a.text b.text a.added b.added;
+  advances = λ bytes past refused s.
+      let stops = stops-behind stop ((bytes ++ xs) ++ ys) zs ((past ++ a.text) ++ b.text)
+      (b.advances (bytes ++ xs) (past ++ a.text) (refused || some) (a.advances bytes past refused s)) in
+      let all : ((bytes ++ xs) ++ ys) ++ zs ≡ bytes ++ (xs ++ ys ++ zs) = simp append_assoc in
       let texts : (past ++ a.text) ++ b.text ≡ past ++ (a.text ++ b.text) = append_assoc past a.text b.text in
-      subst (λ l. Stops stop l (past ++ (a.text ++ b.text))) all (subst (λ l. Stops stop ((bytes ++ xs) ++ ys ++ (zs ++ rest)) l) texts stops);
+      subst (λ l. Stops stop (lines (whole l)) (past ++ (a.text ++ b.text))) all (subst (λ l. Stops stop (lines (whole (((bytes ++ xs) ++ ys) ++ zs))) l) texts stops);
 }
 
 -- ---- the bytes of a piece
@@ -253,17 +284,16 @@ pub split_at : (xs : List ℕ) (i : ℕ) → i < length xs → take i xs ++ get_
 split_at xs i h = ap (λ l. l ++ drop (i + 1) xs) (sym (take_more xs i 0 h)) ∙ take-append-drop (i + 1) xs
 
 -- one more byte of a piece was answered
-pub piece-more : (xs : List ℕ) (i : ℕ) (first second third : Option (List ℕ)) (some other : Bool) (r₁ r₂ r₃ : Reading) (s₁ s₂ s₃ : State) → i < length xs
-    → AnswersBytes (take i xs) first second (Ok some) r₁ s₁ r₂ s₂ → AnswersBytes (get_or xs i 0 ∷ []) second third (Ok other) r₂ s₂ r₃ s₃
-    → AnswersBytes (take (i + 1) xs) first third (Ok (some || other)) r₁ s₁ r₃ s₃
-piece-more xs i first second third some other r₁ r₂ r₃ s₁ s₂ s₃ h a b =
-    subst (λ l. AnswersBytes l first third (Ok (some || other)) r₁ s₁ r₃ s₃) (sym (take_more xs i 0 h))
-    (bytes-append (take i xs) (get_or xs i 0 ∷ []) first second third some other r₁ r₂ r₃ s₁ s₂ s₃ a b)
+pub piece-more : (xs : List ℕ) (i : ℕ) (first second third : Point) (some other : Bool) → i < length xs
+    → AnswersBytes (take i xs) first second (Ok some) → AnswersBytes (get_or xs i 0 ∷ []) second third (Ok other)
+    → AnswersBytes (take (i + 1) xs) first third (Ok (some || other))
+piece-more xs i first second third some other h a b =
+    subst (λ l. AnswersBytes l first third (Ok (some || other))) (sym (take_more xs i 0 h))
+    (bytes-append (take i xs) (get_or xs i 0 ∷ []) first second third some other a b)
 
 -- the run stopped at a byte of a piece
-pub piece-stopped : (xs : List ℕ) (i : ℕ) (first second third : Option (List ℕ)) (some : Bool) (stop : Stop) (r₁ r₂ r₃ : Reading) (s₁ s₂ s₃ : State) → i < length xs
-    → AnswersBytes (take i xs) first second (Ok some) r₁ s₁ r₂ s₂ → AnswersBytes (get_or xs i 0 ∷ []) second third (Err stop) r₂ s₂ r₃ s₃
-    → AnswersBytes xs first third (Err stop) r₁ s₁ r₃ s₃
-piece-stopped xs i first second third some stop r₁ r₂ r₃ s₁ s₂ s₃ h a b =
-    subst (λ l. AnswersBytes l first third (Err stop) r₁ s₁ r₃ s₃) (split_at xs i h)
-    (bytes-stopped (take i xs) (get_or xs i 0 ∷ []) (drop (i + 1) xs) first second third some stop r₁ r₂ r₃ s₁ s₂ s₃ a b)
+pub piece-stopped : (xs : List ℕ) (i : ℕ) (first second third : Point) (some : Bool) (stop : Stop) → i < length xs
+    → AnswersBytes (take i xs) first second (Ok some) → AnswersBytes (get_or xs i 0 ∷ []) second third (Err stop) → AnswersBytes xs first third (Err stop)
+piece-stopped xs i first second third some stop h a b =
+    subst (λ l. AnswersBytes l first third (Err stop)) (split_at xs i h)
+    (bytes-stopped (take i xs) (get_or xs i 0 ∷ []) (drop (i + 1) xs) first second third some stop a b)

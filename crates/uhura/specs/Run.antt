@@ -1,59 +1,96 @@
--- What a run of a script leaves, by its status.
-use Rattle.std.specs.Prelude.{◌≡◌, ℕ, ◌<◌, ◌≤◌, Bool, true, false, List, [], ◌∷◌, ◌++◌, length, take, unwrap_or, codes, bytes_eq, string_bytes, Option, String}
+-- What a run leaves, by the words on the command line and by its status.
+use Rattle.std.specs.Prelude.{◌≡◌, ℕ, ◌+◌, ◌<◌, ◌≤◌, ◌⊎◌, Bool, true, false, List, [], ◌∷◌, length, take, codes, bytes_eq, string_bytes, Option, None, Some, String, if◌then◌else◌}
 use Rattle.std.specs.Io.KnownBytes.{Appends, Consumes, IsAtEnd}
+use Rattle.uhura_io.specs.Streams.{HasRisen}
 use Rattle.uhura_text.specs.Lines.{lines, whole}
 use Rattle.uhura_veto.specs.State.{State}
 use Rattle.uhura_command.specs.State.{empty_state}
 use Rattle.uhura_session.specs.Transcript.{Conversation, Transcript}
+use Rattle.uhura.specs.declared.script.TheConstants.{SCRIPT_LIMIT}
+use Rattle.uhura.specs.declared.task.Task.{Task}
+use Rattle.uhura.specs.declared.task.Task.TheVariants.{Script}
 use Rattle.uhura.specs.declared.status.Status.{Status}
 use Rattle.uhura.specs.declared.status.Status.TheVariants.{Done, Refused, Usage, TooLong, ReadFault, WriteFault, NoMemory}
 
--- the words that run a script: none, or the word run
-abbrev pub is_listed : {A : Type 0} → List (String A) → Bool
-is_listed [] = true
-is_listed (word ∷ []) = bytes_eq (string_bytes word) (codes "run")
-is_listed (word ∷ next ∷ more) = false
+-- what the words ask for: no word, or the word run, asks for the answers to a script, and other words for nothing
+abbrev pub task_of : {A : Type 0} → List (String A) → Option Task
+task_of [] = Some Script
+task_of (word ∷ []) = if bytes_eq (string_bytes word) (codes "run") then Some Script else None
+task_of (word ∷ next ∷ more) = None
 
--- the bytes that a script may have
-abbrev pub script_limit : ℕ
-script_limit = 67108864
+-- what the source has left and what was written to the sink, where they tell it
+pub record Ends : Type 0 where
+  pub left : Option (List ℕ)
+  pub written : Option (List ℕ)
 
--- the text is the answers to the first lines of the bytes, however many they are
-pub record AnswersFirstLines (bytes text : List ℕ) : Type 0 where
+-- the text is the answers to the first of these lines, however many they are, each of them whole
+pub record AnswersFirst (ls : List (List ℕ)) (text : List ℕ) : Type 0 where
   pub count : ℕ
   pub refused : Bool
   pub last : State
-  pub conversation : Conversation empty_state (take count (lines bytes)) text refused last
+  pub conversation : Conversation empty_state (take count ls) text refused last
 
--- the text is a front of such answers
-pub record IsFrontOfTranscript (bytes text : List ℕ) : Type 0 where
+-- the text is a front of such answers: the last of them may be cut short
+pub record IsFrontOfAnswers (ls : List (List ℕ)) (text : List ℕ) : Type 0 where
   pub answers : List ℕ
-  pub answered : AnswersFirstLines bytes answers
+  pub answered : AnswersFirst ls answers
   pub front : (n : ℕ) × (text ≡ take n answers)
 
 -- the text is a transcript of the bytes, refused or not
 abbrev pub IsTranscript : List ℕ → List ℕ → Type 0
 IsTranscript bytes text = (refused : Bool) × Transcript bytes text refused
 
--- the bytes that were read, and behind them those that the source has left, where it tells them
-abbrev pub all_bytes : List ℕ → Option (List ℕ) → List ℕ
-all_bytes bytes left = bytes ++ unwrap_or left []
+-- the lines that a run may answer of the bytes that it read: their whole lines within the limit, and an unfinished
+-- last one only where the source is at its end within the limit
+abbrev pub AreRead : List (List ℕ) → List ℕ → Option (List ℕ) → Type 0
+AreRead ls bytes left =
+    (ls ≡ lines (whole (take SCRIPT_LIMIT bytes)))
+    ⊎ (IsAtEnd left × (length bytes ≤ SCRIPT_LIMIT) × (ls ≡ lines bytes))
 
--- by the status: what the text that was written is of the bytes that were read. A run that stops early has answered
--- lines that end where they end in the whole script.
+-- the bytes were read to their end, within the limit, and the text answers all their lines
+pub record IsAnswered (bytes text : List ℕ) (left : Option (List ℕ)) (refused : Bool) : Type 0 where
+  pub end : IsAtEnd left
+  pub within : length bytes ≤ SCRIPT_LIMIT
+  pub transcript : Transcript bytes text refused
+
+-- by the status: what the text that was written is of the bytes that were read
 abbrev pub Leaves : Status → List ℕ → List ℕ → Option (List ℕ) → Type 0
-Leaves Done bytes text left = IsAtEnd left × (length bytes ≤ script_limit) × Transcript bytes text false
-Leaves Refused bytes text left = IsAtEnd left × (length bytes ≤ script_limit) × Transcript bytes text true
-Leaves Usage bytes text left = (bytes ≡ []) × (text ≡ [])
-Leaves TooLong bytes text left = (script_limit < length bytes) × IsTranscript (whole (take script_limit bytes)) text
-Leaves ReadFault bytes text left = (length bytes ≤ script_limit) × IsTranscript (whole bytes) text
-Leaves WriteFault bytes text left = IsFrontOfTranscript (all_bytes bytes left) text
-Leaves NoMemory bytes text left = AnswersFirstLines (all_bytes bytes left) text
+Leaves Done bytes text left = IsAnswered bytes text left false
+Leaves Refused bytes text left = IsAnswered bytes text left true
+Leaves Usage bytes text left = ⊥
+Leaves TooLong bytes text left =
+    (SCRIPT_LIMIT < length bytes) × IsTranscript (whole (take SCRIPT_LIMIT bytes)) text
+Leaves ReadFault bytes text left = (length bytes ≤ SCRIPT_LIMIT) × IsTranscript (whole bytes) text
+Leaves WriteFault bytes text left =
+    (ls : List (List ℕ)) × AreRead ls bytes left × IsFrontOfAnswers ls text
+Leaves NoMemory bytes text left =
+    (ls : List (List ℕ)) × AreRead ls bytes left × AnswersFirst ls text
 
--- the run took bytes from what the source had left and added a text to what was written, as its status says
-pub record Runs (left_old left_new written_old written_new : Option (List ℕ)) (status : Status) : Type 0 where
+-- the run of a script took bytes from the source and added a text to the sink, as its status says
+pub record RunsScript (before after : Ends) (status : Status) : Type 0 where
   pub bytes : List ℕ
   pub text : List ℕ
-  pub taken : Consumes left_old left_new bytes
-  pub added : Appends written_old written_new text
-  pub leaves : Leaves status bytes text left_new
+  pub taken : Consumes before.left after.left bytes
+  pub added : Appends before.written after.written text
+  pub leaves : Leaves status bytes text after.left
+
+-- by what the words ask for: a script is run, and words that ask for nothing are answered Usage
+abbrev pub Runs : Option Task → Ends → Ends → Status → Type 0
+Runs None before after status = status ≡ Usage
+Runs (Some Script) before after status = RunsScript before after status
+
+-- by the bytes given before and after: a script that was read to its end, or to a read fault, is within the limit,
+-- and one that is too long is past it
+abbrev pub HasSize : Status → ℕ → ℕ → Type 0
+HasSize Done old new = new ≤ old + SCRIPT_LIMIT
+HasSize Refused old new = new ≤ old + SCRIPT_LIMIT
+HasSize ReadFault old new = new ≤ old + SCRIPT_LIMIT
+HasSize TooLong old new = old + SCRIPT_LIMIT < new
+HasSize Usage old new = Unit {0}
+HasSize WriteFault old new = Unit {0}
+HasSize NoMemory old new = Unit {0}
+
+-- the faults never fall, and the run has this status only where they rose
+pub record HasFault (fault status : Status) (old new : ℕ) : Type 0 where
+  pub kept : old ≤ new
+  pub cause : status ≡ fault → HasRisen old new

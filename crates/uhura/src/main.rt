@@ -5,6 +5,7 @@ mod arguments;
 mod run;
 mod script;
 mod status;
+mod task;
 #[cfg(test)]
 mod tests;
 

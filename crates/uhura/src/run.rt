@@ -1,44 +1,58 @@
-//! The run of a script: its lines are answered as they are read.
-ghost use Rattle.std.specs.Prelude.{◌≡◌, ◌+◌, ◌^◌, ◌<◌, ◌≤◌, ◌⊎◌, ◌↔◌, false};
-ghost use Rattle.uhura_io.specs.Streams.{HasRisen};
-ghost use Rattle.uhura.specs.declared.status.Status.TheVariants.{Done, Refused, Usage, TooLong, ReadFault, WriteFault};
-ghost use Rattle.uhura.specs.Run.{is_listed, script_limit, Runs};
+//! A run of the program: its words say what it does, and its status how it ended.
+ghost use Rattle.std.specs.Prelude.{◌≡◌, ◌^◌, ◌<◌};
+ghost use Rattle.uhura.specs.declared.status.Status.TheVariants.{Usage, ReadFault, WriteFault};
+ghost use Rattle.uhura.specs.Run.{task_of, Ends, Runs, RunsScript, HasSize, HasFault};
 
 use crate::Status;
 use crate::script::answer_script;
+use crate::task::{Task, read_task};
 use std::alloc::{AllocError, Global};
 use uhura_io::{Sink, Source};
 use uhura_session::Session;
 use uhura_text::Lines;
 
-/// Reads a script from the source and writes the answers to its lines, in order, to the sink.
+/// Does what the words ask for. With no word, or the one word `run`, it reads a script from the source and writes the
+/// answers to its lines, in order, to the sink.
 ///
-/// The words are none, or the one word `run`. Each read asks for 4,096 bytes, and the answers to all whole lines that
-/// were read are written before the next read. An answer is composed in memory before its first byte is written, so
-/// that want of memory cuts no answer short.
+/// `outcome` speaks of the bytes where the source tells what it has left and the sink what was written: only there
+/// are Done and Refused told apart. The causes of the other statuses hold of every source and sink, that of `TooLong`
+/// by the number of bytes given, where it is below 2^63 at the call.
+///
+/// Each read asks for 4,096 bytes, and the answers to all whole lines that were read are written before the next
+/// read. No clause says so: it is tested. An answer is composed in memory before its first byte is written.
 pub fn run<S: Source, K: Sink>(
     alloc: Global,
     words: &Vec<String>,
     source: &mut S,
     sink: &mut K,
 ) -> Status
-    ensures usage { (result ≡ Usage) ↔ (is_listed words.now.items ≡ false) }
+    ensures outcome { Runs (task_of words.now.items)
+        (record { left = S.left source.old; written = K.written sink.old })
+        (record { left = S.left source.new; written = K.written sink.new }) result }
     ensures untouched { result ≡ Usage → (source.new ≡ source.old) × (sink.new ≡ sink.old) }
 
-    ensures bytes { Runs (S.left source.old) (S.left source.new) (K.written sink.old) (K.written sink.new) result }
-
-    // These two speak of a source that doesn't tell its bytes, too.
-    ensures too_long { S.given source.old < 2 ^ 63 → result ≡ TooLong → S.given source.old + script_limit < S.given source.new }
-    ensures within { S.given source.old < 2 ^ 63 → (result ≡ Done) ⊎ (result ≡ Refused) ⊎ (result ≡ ReadFault) → S.given source.new ≤ S.given source.old + script_limit }
-
-    ensures read_fault { result ≡ ReadFault → HasRisen (S.faults source.old) (S.faults source.new) }
-    ensures write_fault { result ≡ WriteFault → HasRisen (K.faults sink.old) (K.faults sink.new) }
-    ensures source_faults { S.faults source.old ≤ S.faults source.new }
-    ensures sink_faults { K.faults sink.old ≤ K.faults sink.new }
+    // These hold of a source and a sink that tell nothing, too.
+    ensures size { S.given source.old < 2 ^ 63 →
+        HasSize result (S.given source.old) (S.given source.new) }
+    ensures read_fault { HasFault ReadFault result (S.faults source.old) (S.faults source.new) }
+    ensures write_fault { HasFault WriteFault result (K.faults sink.old) (K.faults sink.new) }
 {
-    if !is_listed(words) {
-        return Status::Usage;
+    match read_task(words) {
+        Some(Task::Script) => run_script(alloc, source, sink),
+        None => Status::Usage,
     }
+}
+
+/// Answers the lines of a script in a new session.
+fn run_script<S: Source, K: Sink>(alloc: Global, source: &mut S, sink: &mut K) -> Status
+    ensures outcome { RunsScript
+        (record { left = S.left source.old; written = K.written sink.old })
+        (record { left = S.left source.new; written = K.written sink.new }) result }
+    ensures size { S.given source.old < 2 ^ 63 →
+        HasSize result (S.given source.old) (S.given source.new) }
+    ensures read_fault { HasFault ReadFault result (S.faults source.old) (S.faults source.new) }
+    ensures write_fault { HasFault WriteFault result (K.faults sink.old) (K.faults sink.new) }
+{
     let mut lines = match Lines::new(alloc) {
         Ok(lines) => lines,
         Err(AllocError) => return Status::NoMemory,
@@ -48,15 +62,4 @@ pub fn run<S: Source, K: Sink>(
         Err(AllocError) => return Status::NoMemory,
     };
     answer_script(&mut lines, &mut session, source, sink)
-}
-
-/// Whether these words run a script.
-fn is_listed(words: &Vec<String>) -> bool
-    ensures { result ≡ is_listed words.now.items }
-{
-    match words.as_slice() {
-        [] => true,
-        [word] => word.as_str() == "run",
-        _ => false,
-    }
 }

@@ -1,10 +1,10 @@
 //! The answers to a script, line by line as its bytes are read.
-ghost use Rattle.std.specs.Prelude.{◌≡◌, ◌≢◌, ◌+◌, ◌^◌, ◌<◌, ◌≤◌, ◌⊎◌, ◌∷◌, []};
+ghost use Rattle.std.specs.Prelude.{◌≡◌, ◌^◌, ◌<◌, ◌≤◌, ◌∷◌, []};
 ghost use Rattle.uhura_io.specs.Streams.{HasRisen};
 ghost use Rattle.uhura_text.specs.Reading.{IsFresh};
 ghost use Rattle.uhura_command.specs.State.{empty_state};
-ghost use Rattle.uhura.specs.declared.status.Status.TheVariants.{Done, Refused, Usage, TooLong, ReadFault, WriteFault};
-ghost use Rattle.uhura.specs.Run.{script_limit, Runs};
+ghost use Rattle.uhura.specs.declared.status.Status.TheVariants.{ReadFault, WriteFault};
+ghost use Rattle.uhura.specs.Run.{RunsScript, HasSize, HasFault};
 ghost use Rattle.uhura.specs.Script.{AnswersLine, AnswersBytes, AnswersEnd, HasStopCause, status_of, EndsRun};
 
 use crate::Status;
@@ -28,7 +28,9 @@ pub(crate) enum Stop {
 
 /// Answers one line, and says whether it is refused.
 fn answer_line<K: Sink>(session: &mut Session, line: &[u8], sink: &mut K) -> Result<bool, Stop>
-    ensures line { AnswersLine session.old.state line.now (K.written sink.old) result session.new.state (K.written sink.new) }
+    ensures line { AnswersLine line.now
+        (record { state = session.old.state; written = K.written sink.old }) result
+        (record { state = session.new.state; written = K.written sink.new }) }
     ensures cause { HasStopCause (K.faults sink.old) (K.faults sink.new) result }
 {
     let answer = match session.line(line) {
@@ -48,7 +50,10 @@ fn feed<K: Sink>(
     sink: &mut K,
     byte: u8,
 ) -> Result<bool, Stop>
-    ensures bytes { AnswersBytes (byte ∷ []) (K.written sink.old) (K.written sink.new) result lines.old session.old.state lines.new session.new.state }
+    ensures bytes { AnswersBytes (byte ∷ [])
+        (record { reading = lines.old; state = session.old.state; written = K.written sink.old })
+        (record { reading = lines.new; state = session.new.state; written = K.written sink.new })
+        result }
     ensures cause { HasStopCause (K.faults sink.old) (K.faults sink.new) result }
 {
     match lines.feed(byte) {
@@ -59,7 +64,9 @@ fn feed<K: Sink>(
 
 /// Answers the line that the end of the input ends. Says whether it was refused.
 fn finish<K: Sink>(lines: &mut Lines, session: &mut Session, sink: &mut K) -> Result<bool, Stop>
-    ensures end { AnswersEnd (K.written sink.old) (K.written sink.new) result lines.old session.old.state }
+    ensures end { AnswersEnd
+        (record { reading = lines.old; state = session.old.state; written = K.written sink.old })
+        (K.written sink.new) result }
     ensures cause { HasStopCause (K.faults sink.old) (K.faults sink.new) result }
 {
     match lines.finish() {
@@ -75,7 +82,10 @@ fn feed_all<K: Sink>(
     sink: &mut K,
     bytes: &[u8],
 ) -> Result<bool, Stop>
-    ensures bytes { AnswersBytes bytes.now (K.written sink.old) (K.written sink.new) result lines.old session.old.state lines.new session.new.state }
+    ensures bytes { AnswersBytes bytes.now
+        (record { reading = lines.old; state = session.old.state; written = K.written sink.old })
+        (record { reading = lines.new; state = session.new.state; written = K.written sink.new })
+        result }
     ensures cause { HasStopCause (K.faults sink.old) (K.faults sink.new) result }
 {
     let mut refused = false;
@@ -98,14 +108,13 @@ pub(crate) fn answer_script<S: Source, K: Sink>(
     requires fresh { IsFresh lines.old }
     requires begins { session.old.state ≡ empty_state }
 
-    ensures listed { result ≢ Usage }
-    ensures bytes { Runs (S.left source.old) (S.left source.new) (K.written sink.old) (K.written sink.new) result }
-    ensures too_long { S.given source.old < 2 ^ 63 → result ≡ TooLong → S.given source.old + script_limit < S.given source.new }
-    ensures within { S.given source.old < 2 ^ 63 → (result ≡ Done) ⊎ (result ≡ Refused) ⊎ (result ≡ ReadFault) → S.given source.new ≤ S.given source.old + script_limit }
-    ensures read_fault { result ≡ ReadFault → HasRisen (S.faults source.old) (S.faults source.new) }
-    ensures write_fault { result ≡ WriteFault → HasRisen (K.faults sink.old) (K.faults sink.new) }
-    ensures source_faults { S.faults source.old ≤ S.faults source.new }
-    ensures sink_faults { K.faults sink.old ≤ K.faults sink.new }
+    ensures outcome { RunsScript
+        (record { left = S.left source.old; written = K.written sink.old })
+        (record { left = S.left source.new; written = K.written sink.new }) result }
+    ensures size { S.given source.old < 2 ^ 63 →
+        HasSize result (S.given source.old) (S.given source.new) }
+    ensures read_fault { HasFault ReadFault result (S.faults source.old) (S.faults source.new) }
+    ensures write_fault { HasFault WriteFault result (K.faults sink.old) (K.faults sink.new) }
 {
     let mut buffer = [0; PIECE];
     let mut room = SCRIPT_LIMIT;
@@ -136,9 +145,10 @@ fn end_status<K: Sink>(
     sink: &mut K,
     refused: bool,
 ) -> Status
-    ensures end { EndsRun (K.written sink.old) (K.written sink.new) refused result lines.old session.old.state }
-    ensures kept { K.faults sink.old ≤ K.faults sink.new }
-    ensures write_fault { result ≡ WriteFault → HasRisen (K.faults sink.old) (K.faults sink.new) }
+    ensures end { EndsRun
+        (record { reading = lines.old; state = session.old.state; written = K.written sink.old })
+        (K.written sink.new) refused result }
+    ensures write_fault { HasFault WriteFault result (K.faults sink.old) (K.faults sink.new) }
 {
     match finish(lines, session, sink) {
         Ok(some) => {

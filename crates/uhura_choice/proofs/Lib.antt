@@ -1,6 +1,7 @@
 pub mod Comparisons
 pub mod Costs
 pub mod Earlier
+pub mod Enumerations
 pub mod Extensions
 pub mod Fillings
 pub mod Laters

@@ -15,17 +15,20 @@ pub record IsFirstBranch (choices : List Choice) (branch : List Pick) : Type 0 w
 pub record IsFirstFrom (choices : List Choice) (picks branch : List Pick) : Type 0 where
   pub is_branch : IsBranch choices branch
   pub begins : IsFrontOf picks branch
-  pub none_earlier : (rest : List Pick) → IsBranch choices (picks ++ rest) → IsEarlier (picks ++ rest) branch → ⊥
+  pub none_earlier : (rest : List Pick) → IsBranch choices (picks ++ rest)
+      → IsEarlier (picks ++ rest) branch → ⊥
 
 -- no branch is later
 abbrev pub IsLastBranch : List Choice → List Pick → Type 0
-IsLastBranch choices branch = (other : List Pick) → IsBranch choices other → IsEarlier branch other → ⊥
+IsLastBranch choices branch =
+    (other : List Pick) → IsBranch choices other → IsEarlier branch other → ⊥
 
 -- a later branch, and nothing lies between: each later branch is this one or later than it
 pub record IsNextBranch (choices : List Choice) (branch next : List Pick) : Type 0 where
   pub is_branch : IsBranch choices next
   pub later : IsEarlier branch next
-  pub nothing_between : (other : List Pick) → IsBranch choices other → IsEarlier branch other → (other ≡ next) ⊎ IsEarlier next other
+  pub nothing_between : (other : List Pick) → IsBranch choices other → IsEarlier branch other
+      → (other ≡ next) ⊎ IsEarlier next other
 
 -- from this branch on by next branches, to the last one
 abbrev pub GoesOn : List Choice → List Pick → List (List Pick) → Type 0
@@ -44,11 +47,20 @@ pub record ListsBranches (choices : List Choice) (walk : List (List Pick)) : Typ
   pub once : AllPairs ◌≢◌ walk
   pub every : (branch : List Pick) → IsBranch choices branch → Contains walk branch
 
+-- the branches have a walk, and each of their walks lists them
+pub record AreWalked (choices : List Choice) : Type 0 where
+  pub walk : List (List Pick)
+  pub is_walk : IsWalk choices walk
+  pub listed : (walk : List (List Pick)) → IsWalk choices walk → ListsBranches choices walk
+
 -- the alternative after the one picked, where the choice has one
 abbrev pub later_pick : Choice → Pick → Option Pick
 later_pick c Inactive = None
-later_pick c (Alternative a) = if nat_lt (a + 1) (length c.alternatives) then Some (Alternative (a + 1)) else None
+later_pick c (Alternative a) =
+    if nat_lt (a + 1) (length c.alternatives) then Some (Alternative (a + 1)) else None
 
 -- the same for the pick at this place and its choice
 abbrev pub later_at : List Choice → List Pick → ℕ → Option Pick
-later_at choices picks place = option_and_then (λ c. option_and_then (later_pick c) (slice_get picks place)) (slice_get choices place)
+later_at choices picks place =
+    option_and_then (λ c. option_and_then (later_pick c) (slice_get picks place))
+    (slice_get choices place)

@@ -42,6 +42,7 @@ fn pick_cost(choice: &Choice, pick: Pick) -> u64
     }
 }
 
+/// What this alternative of the choice costs, and nothing where there is none.
 fn alternative_cost(choice: &Choice, alternative: u32) -> u64
     ensures cost { result ≡ pick_cost choice.now (Pick.Alternative alternative) }
     ensures small { result ≤ 4294967295 }

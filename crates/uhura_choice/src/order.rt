@@ -5,8 +5,8 @@ ghost use Rattle.uhura_choice.specs.Order.{ArePrefixesOfOne, Compares, alternati
 use crate::{Pick, Prefix};
 use std::cmp::Ordering;
 
-/// Equal where one prefix begins the other, and otherwise as their first difference, which is always
-/// between two alternatives of one choice.
+/// Equal where one prefix begins the other, and otherwise as their first difference, which is always between two
+/// alternatives of one choice.
 pub fn compare(a: &Prefix, b: &Prefix) -> Ordering
     requires { ArePrefixesOfOne a.now b.now }
     ensures { Compares result a.now b.now }

@@ -3,8 +3,7 @@ ghost use Rattle.std.specs.Prelude.{◌≡◌, ◌<◌, ◌≤◌, [], ◌∷◌
 
 use std::marker::Model;
 
-/// What a branch has for a choice: an alternative, by its place, or nothing where the choice's guard
-/// doesn't hold.
+/// What a branch has for a choice: an alternative, by its place, or nothing where the choice's guard doesn't hold.
 #[derive(Clone, Copy, Debug, PartialEq, Eq)]
 pub enum Pick {
     Alternative(u32),

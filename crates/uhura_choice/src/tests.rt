@@ -9,7 +9,7 @@ fn name(rt: &impl Abort, text: &str) -> Name {
     Name::read(text.as_bytes()).expect(rt, "a name")
 }
 
-// Appends a choice of two alternatives, with their costs, under the literals that the pairs spell.
+/// Appends a choice of two alternatives, with their costs, under the literals that the pairs spell.
 fn choose(
     rt: &impl Abort,
     plan: &mut Plan,
@@ -25,7 +25,8 @@ fn choose(
     plan.add_choice(name(rt, own), &pairs, guard)
 }
 
-// On foot, or by train with a ticket; with the day ticket there is a meal. There is always a hat to wear or to leave.
+/// On foot, or by train with a ticket; with the day ticket there is a meal. There is always a hat to wear or to
+/// leave.
 fn outing(rt: &impl Abort, alloc: Global) -> Result<Plan, Fail> {
     let mut plan = Plan::new(alloc)?;
     let (way, ticket) = (name(rt, "way"), name(rt, "ticket"));
@@ -49,7 +50,7 @@ fn outing(rt: &impl Abort, alloc: Global) -> Result<Plan, Fail> {
     Ok(plan)
 }
 
-// The pick of this number among two alternatives and, behind them, nothing.
+/// The pick of this number among two alternatives and, behind them, nothing.
 fn pick(number: u32) -> Pick {
     if number < 2 {
         Pick::Alternative(number)
@@ -58,13 +59,13 @@ fn pick(number: u32) -> Pick {
     }
 }
 
-// Whether the picks of these numbers are a branch of the outing.
+/// Whether the picks of these numbers are a branch of the outing.
 fn is_branch(way: u32, ticket: u32, meal: u32, hat: u32) -> bool {
     way < 2 && (ticket < 2) == (way == 1) && (meal < 2) == (ticket == 1) && hat < 2
 }
 
-// All lists of picks that are branches of the outing, in order.
-fn enumerated(alloc: Global) -> Result<Vec<[Pick; 4]>, AllocError> {
+/// All lists of picks that are branches of the outing, in order.
+fn enumerate(alloc: Global) -> Result<Vec<[Pick; 4]>, AllocError> {
     let mut all = Vec::new(alloc);
     for number in 0..81 {
         let (way, ticket) = (number / 27, number / 9 % 3);
@@ -76,7 +77,7 @@ fn enumerated(alloc: Global) -> Result<Vec<[Pick; 4]>, AllocError> {
     Ok(all)
 }
 
-// The branches of the plan, one after another, have these picks.
+/// The branches of the plan, one after another, have these picks.
 fn expect_walk(rt: &impl Abort, plan: &Plan, all: &[[Pick; 4]]) {
     let mut walked = Some(first_branch(plan));
     for picks in all {
@@ -90,13 +91,13 @@ fn expect_walk(rt: &impl Abort, plan: &Plan, all: &[[Pick; 4]]) {
 #[test]
 fn walks_what_is_enumerated(rt: HostRuntime) -> Result<(), Fail> {
     let plan = outing(&rt, rt.alloc())?;
-    let all = enumerated(rt.alloc())?;
+    let all = enumerate(rt.alloc())?;
     assert_eq!(rt; all.len(), 8);
     expect_walk(&rt, &plan, all.as_slice());
     Ok(())
 }
 
-// Whether there is a second branch, which compares as later than the first.
+/// Whether there is a second branch, which compares as later than the first.
 fn second_is_later(plan: &Plan) -> bool {
     let first = first_branch(plan);
     match next_branch(plan, &first) {

@@ -20,7 +20,8 @@ pub fn first_branch(plan: &Plan) -> Branch
 /// The branch after this one, and none exactly after the last. Each later choice is looked at once.
 pub fn next_branch(plan: &Plan, branch: &Branch) -> Option<Branch>
     requires { IsBranch plan.now.choices branch.now }
-    ensures { MatchOption result (IsLastBranch plan.now.choices branch.now) (IsNextBranch plan.now.choices branch.now) }
+    ensures { MatchOption result (IsLastBranch plan.now.choices branch.now)
+        (IsNextBranch plan.now.choices branch.now) }
 {
     for place in (0..branch.entries().len() as u32).rev() {
         if let Some(later) = later_at(plan, branch.entries(), place) {

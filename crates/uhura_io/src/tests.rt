@@ -1,5 +1,5 @@
-// What the streams give and take on small texts. The proofs say the same for all; here are the constructors'
-// happy paths and the order of reads and writes.
+//! What the streams give and take on small texts. The proofs say the same for all; here are the constructors' happy
+//! paths and the order of reads and writes.
 use crate::{
     Failed, InputSource, MemorySink, MemorySource, OutputSink, Sink, Source, SteadySink,
     SteadySource, write_all,

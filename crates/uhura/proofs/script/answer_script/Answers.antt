@@ -1,27 +1,31 @@
 use Rattle.std.proofs.Common.{refl, arith}
-use Rattle.uhura.proofs.Pieces.{Going-start, Going-more, Runs-stopped, Runs-too_long, Runs-ended}
+use Rattle.uhura.proofs.Pieces.{Going-start, Going-more, Runs-read_fault, Runs-stopped, Runs-too_long, Runs-ended}
 use Rattle.uhura.proofs.script.answer_script.Goals as goal
 
 pub pieces-init : goal.pieces-init
 pieces-init g c = record {
-  going = Going-start _ _ _ _ _ c.requires.fresh c.requires.begins;
+  going = Going-start _ _ _ c.requires.fresh c.requires.begins;
   source_faults = omega arith;
   sink_faults = omega arith;
 }
 
-pub returns-then-given-eq0-clause-bytes : goal.returns-then-given-eq0-clause-bytes
-returns-then-given-eq0-clause-bytes g c =
+pub returns-in-Err-clause-outcome : goal.returns-in-Err-clause-outcome
+returns-in-Err-clause-outcome g c = Runs-read_fault c.pieces.invariant.going c.in-Err.ensures.bytes
+
+pub returns-then-given-eq0-clause-outcome : goal.returns-then-given-eq0-clause-outcome
+returns-then-given-eq0-clause-outcome g c =
     let read = rw c.if-given-eq0.true at c.in-Ok.ensures.bytes in
     Runs-ended c.pieces.invariant.going _ read.0 (read.1 refl (omega arith)) c.end_status.ensures.end
 
-pub returns-in-Err-feed_all-clause-bytes : goal.returns-in-Err-feed_all-clause-bytes
-returns-in-Err-feed_all-clause-bytes g c =
+pub returns-in-Err-feed_all-clause-outcome : goal.returns-in-Err-feed_all-clause-outcome
+returns-in-Err-feed_all-clause-outcome g c =
     rw c.status_of.ensures
-    (Runs-stopped c.pieces.invariant.going _ _ _ _ (omega arith) c.in-Ok.ensures.bytes.0 c.in-Err-feed_all.ensures.bytes)
+    (Runs-stopped c.pieces.invariant.going _ _ _ _ c.in-Ok.ensures.bound.0 (omega arith) c.in-Ok.ensures.bytes.0 c.in-Err-feed_all.ensures.bytes)
 
-pub returns-then-given-room-clause-bytes : goal.returns-then-given-room-clause-bytes
-returns-then-given-room-clause-bytes g c =
-    Runs-too_long c.pieces.invariant.going _ _ _ c.in-Ok.ensures.bound.0 c.if-given-room.true (omega arith) c.in-Ok.ensures.bytes.0 c.in-Ok-feed_all.ensures.bytes
+pub returns-then-given-room-clause-outcome : goal.returns-then-given-room-clause-outcome
+returns-then-given-room-clause-outcome g c =
+    Runs-too_long c.pieces.invariant.going _ _ _ c.in-Ok.ensures.bound.0 c.if-given-room.true (omega arith) c.in-Ok.ensures.bytes.0
+    c.in-Ok-feed_all.ensures.bytes
 
 pub pieces-preserved : goal.pieces-preserved
 pieces-preserved g c = record {

@@ -4,8 +4,9 @@ use Rattle.uhura.proofs.script.answer_script.Given as goal
 
 abbrev pub invariant-pieces : goal.invariant-pieces
 invariant-pieces g l = record {
-  going : Going (g.S.Source.left l.initial.source) (g.S.Source.left l.source) (g.K.Sink.written l.initial.sink) (g.K.Sink.written l.sink)
-      (g.S.Source.given l.initial.source) (g.S.Source.given l.source) l.room l.refused l.lines l.session.state;
+  going : Going (record { left = g.S.Source.left l.initial.source; written = g.K.Sink.written l.initial.sink }) (g.S.Source.left l.source)
+      (g.S.Source.given l.initial.source) (g.S.Source.given l.source) l.room l.refused
+      (record { reading = l.lines; state = l.session.state; written = g.K.Sink.written l.sink });
   source_faults : g.S.Source.faults l.initial.source ≤ g.S.Source.faults l.source;
   sink_faults : g.K.Sink.faults l.initial.sink ≤ g.K.Sink.faults l.sink;
 }

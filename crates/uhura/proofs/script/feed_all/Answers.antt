@@ -4,10 +4,10 @@ use Rattle.uhura.proofs.script.feed_all.Goals as goal
 
 pub returns-in-Err-clause-bytes : goal.returns-in-Err-clause-bytes
 returns-in-Err-clause-bytes g c =
-    piece-stopped _ _ _ _ _ _ _ _ _ _ _ _ _ c.loop-byte-test.true c.loop-byte.invariant.fed c.in-Err.ensures.bytes
+    piece-stopped _ _ _ _ _ _ _ c.loop-byte-test.true c.loop-byte.invariant.fed c.in-Err.ensures.bytes
 
 pub loop-byte-preserved : goal.loop-byte-preserved
 loop-byte-preserved g c = record {
-  fed = piece-more _ _ _ _ _ _ _ _ _ _ _ _ _ c.loop-byte-test.true c.loop-byte.invariant.fed c.in-Ok.ensures.bytes;
+  fed = piece-more _ _ _ _ _ _ _ c.loop-byte-test.true c.loop-byte.invariant.fed c.in-Ok.ensures.bytes;
   kept = omega (arith, c.loop-byte.invariant.kept, c.in-Ok.ensures.cause.kept);
 }

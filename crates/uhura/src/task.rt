@@ -1,0 +1,27 @@
+//! What the words on the command line ask for.
+ghost use Rattle.std.specs.Prelude.{◌≡◌};
+ghost use Rattle.uhura.specs.Run.{task_of};
+
+/// What the program is asked to do.
+#[derive(Clone, Copy, Debug, PartialEq, Eq)]
+pub(crate) enum Task {
+    /// To answer the lines of a script.
+    Script,
+}
+
+/// The task that these words ask for, and none where they are none of those listed.
+pub(crate) fn read_task(words: &Vec<String>) -> Option<Task>
+    ensures { result ≡ task_of words.now.items }
+{
+    match words.as_slice() {
+        [] => Some(Task::Script),
+        [word] => {
+            if word.as_str() == "run" {
+                Some(Task::Script)
+            } else {
+                None
+            }
+        }
+        _ => None,
+    }
+}
