@@ -1,5 +1,5 @@
-//! The laws of answers: what `show` answers is a script of the same state, an error is told by its text, and the slots
-//! of requirements change no answer.
+//! The laws of answers: what `show` answers is a script of the same state, an error is told by its text, and the
+//! slots of requirements change no answer.
 ghost use Rattle.std.specs.Prelude.{◌≡◌};
 ghost use Rattle.uhura_veto.specs.State.{State};
 ghost use Rattle.uhura_worst.specs.Slots.{IsSameButForSlots};
@@ -24,5 +24,6 @@ pub fn refusals_are_errors()
 /// have one branch, by the law `slots_settle_nothing`. So no answer depends on the history that made the state.
 pub fn slots_change_no_answer()
     ensures shown { (a b : State) → IsSameUpToSlots a b → shown_text a ≡ shown_text b }
-    ensures asked { (a b : State) → IsSoundState a → IsSoundState b → IsSameUpToSlots a b → IsSameButForSlots a b }
+    ensures asked { (a b : State) → IsSoundState a → IsSoundState b → IsSameUpToSlots a b →
+        IsSameButForSlots a b }
 {}
