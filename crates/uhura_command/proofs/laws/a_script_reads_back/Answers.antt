@@ -1,7 +1,7 @@
 use Rattle.uhura_command.specs.State.{empty_state}
 use Rattle.uhura_command.proofs.MakesPlan.{makes_state}
 use Rattle.uhura_command.proofs.ScriptReplays.{script_replays}
-use Rattle.uhura_command.proofs.law.a_script_reads_back.Goals as goal
+use Rattle.uhura_command.proofs.laws.a_script_reads_back.Goals as goal
 
 pub returns-clause-commands : goal.returns-clause-commands
 returns-clause-commands c = makes_state

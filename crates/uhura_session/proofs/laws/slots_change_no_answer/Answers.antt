@@ -3,7 +3,7 @@ use Rattle.std.specs.Prelude.{codes}
 use Rattle.uhura_veto.specs.declared.veto.Veto.{Veto}
 use Rattle.uhura_veto.specs.Denial.{is_denied}
 use Rattle.uhura_command.proofs.Slotless.{script_slotless}
-use Rattle.uhura_session.proofs.law.slots_change_no_answer.Goals as goal
+use Rattle.uhura_session.proofs.laws.slots_change_no_answer.Goals as goal
 
 pub returns-clause-shown : goal.returns-clause-shown
 returns-clause-shown c = λ a b same. ap (λ xs. xs ++ codes "# end\n") (script_slotless a b same)
