@@ -1,0 +1,6 @@
+mod Adding
+mod Drawing
+mod Naming
+mod Numbering
+mod Spelling
+mod Making

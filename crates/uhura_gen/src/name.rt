@@ -1,6 +1,5 @@
 //! Names of a letter and a number behind it.
-ghost use Rattle.std.specs.Prelude.{◌≡◌, ◌<◌, [], ◌∷◌, IsTrue};
-ghost use Rattle.uhura_plan.specs.Name.{is_letter};
+ghost use Rattle.std.specs.Prelude.{◌≡◌, ◌<◌, ◌≤◌, [], ◌∷◌};
 ghost use Rattle.uhura_gen.specs.Names.{named, whole_name};
 
 use itoa::Buffer;
@@ -12,9 +11,11 @@ pub(crate) const NUMBERS: u32 = 1000;
 /// The bytes of a letter and of a number below the limit, at most.
 const BYTES: usize = 4;
 
-/// The name of the letter and the number.
+/// The name of a small letter and a number.
+#[tactic(auto, using(crate::proofs::Spelling::three_digits))]
 pub(crate) fn name_of(letter: u8, number: u32) -> Name
-    requires letter { IsTrue (is_letter letter) }
+    requires least { 97 ≤ letter }
+    requires most { letter ≤ 122 }
     requires small { number < NUMBERS }
     ensures { result ≡ named (letter ∷ []) number }
 {
