@@ -4,3 +4,4 @@ mod Naming
 mod Numbering
 mod Spelling
 mod Making
+mod Looping

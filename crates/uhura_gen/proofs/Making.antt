@@ -51,6 +51,9 @@ ends_apart place event = unlike (end_name place) (event_name event) (other_lette
 pub kept : (z : ℤ) → IsRangeEnd z → to_z w64 (of_z w64 z) ≡ z
 kept z small = let least = small.least in let most = small.most in omega (arith, ints)
 
+pub kept_positive : (n : ℕ) → n < 10000 → to_z w64 n ≡ pos n
+kept_positive n small = omega (arith, ints)
+
 -- the call of a duration
 pub record IsDurationCall (name start end : List ℕ) (lower upper : ℤ) (low high : Rate) (span : Span) (x place : ℕ) : Type 0 where
   pub name_is : name ≡ duration_name place
@@ -186,6 +189,10 @@ count_requirements plan steps stops has =
 -- the next slot
 pub next_slot : (plan : Lists) (steps stops : ℕ) → IsNumbered plan → HasRequirements plan steps stops → slots plan.requirements ≡ up_to (steps + stops)
 next_slot plan steps stops numbered has = numbered.slots ∙ ap up_to (count_requirements plan steps stops has)
+
+-- the place of the next requirement between neighbours
+pub step_place : (plan : Lists) (place : ℕ) → HasRequirements plan place 0 → place ≡ length plan.requirements
+step_place plan place has = omega (arith, count_requirements plan place 0 has)
 
 -- one more requirement between neighbours
 pub one_more_step : (plan : Lists) (made : Requirement) (place : ℕ) → HasRequirements plan place 0 → made.name ≡ step_name (place + 1) → HasRequirements (with_requirement plan made) (place + 1) 0

@@ -123,6 +123,7 @@ fn add_stop(plan: &mut Plan, generator: &mut Generator, place: u32) -> Result<()
     requires names { HasRequirements plan.old (length plan.old.events - 1) place }
     requires choices { length plan.old.choices ≡ 3 }
     requires duration { place < length plan.old.uncertains }
+    requires durations { length plan.old.uncertains ≤ 256 }
     requires event { 4 * place + 3 < length plan.old.events }
     requires few { length plan.old.events ≤ 256 }
     ensures stop { OnOk result (plan.new ≡ with_requirement plan.old

@@ -1,5 +1,6 @@
 -- The names are new, the start is there, and with it there is one duration more.
 use Rattle.std.proofs.Common.{◌≡◌, subst, sym}
+use Rattle.std.proofs.lemmas.Result.{on_ok_weaker}
 use Rattle.uhura_plan.specs.Edits.{with_uncertain, AddsUncertain}
 use Rattle.uhura_plan.specs.Refusals.{Answers}
 use Rattle.uhura_gen.specs.Items.{duration}
@@ -49,4 +50,7 @@ returns-clause-duration c =
     c.add_uncertain.ensures.ok
 
 pub returns-clause-numbered : goal.returns-clause-numbered
-returns-clause-numbered c = ?
+returns-clause-numbered c =
+    on_ok_weaker c.unrefused.result
+    (λ is. subst IsNumbered (sym is) (numbered_duration c.args.plan.now c.args.generator.now.x c.args.place c.requires.numbered c.requires.place))
+    (returns-clause-duration c)
