@@ -5,3 +5,4 @@ mod Numbering
 mod Spelling
 mod Making
 mod Looping
+mod Choosing

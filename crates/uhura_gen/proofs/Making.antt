@@ -126,7 +126,7 @@ adds_duration plan next name start end lower upper low high span x place call ta
     ∙ ap (λ h. with_uncertain plan (uncertain_from (4 * place) (stated_of (duration_name place) start (end_name place) drawn_span.lower drawn_span.upper (plain_rate drawn_span.lower_price) h))) high_rate))))))
 
 -- literals are those that they are looked up as
-somes_injective : (a b : List Literal) → map (λ l. Some l) a ≡ map (λ l. Some l) b → a ≡ b
+pub somes_injective : (a b : List Literal) → map (λ l. Some l) a ≡ map (λ l. Some l) b → a ≡ b
 somes_injective [] [] same = refl
 somes_injective [] (y ∷ ys) same = let no : ⊥ = cc in absurd no
 somes_injective (x ∷ xs) [] same = let no : ⊥ = cc in absurd no
