@@ -1,26 +1,28 @@
 -- What the call of a choice adds, and that no plan so far refuses it.
-use Rattle.std.proofs.Common.{◌≡◌, ℕ, zero, suc, ◌*◌, ◌<◌, ◌≤◌, Bool, true, false, List, [], ◌∷◌, length, get_or, None, Some, All, position, bytes_eq, nat_lt, refl, ap, sym, ◌∙◌, arith}
+use Rattle.std.proofs.Common.{◌≡◌, ℕ, zero, suc, ◌*◌, ◌<◌, ◌≤◌, Bool, true, false, List, [], ◌∷◌, length, get_or, Option, None, Some, is_some, All, position, bytes_eq, nat_lt, refl, ap, sym, ◌∙◌, arith}
 use Rattle.std.proofs.lemmas.Bool.Decides.{nat_tests}
 use Rattle.std.proofs.lemmas.List.{length-map}
 use Rattle.uhura_plan.specs.declared.guard.Literal.{Literal}
 use Rattle.uhura_plan.specs.declared.choice.Choice.{Choice}
+use Rattle.uhura_plan.specs.declared.refusal.EditRefusal.{EditRefusal}
 use Rattle.uhura_plan.specs.declared.refusal.EditRefusal.TheVariants.{Taken, Full}
 use Rattle.uhura_plan.specs.Lists.{Lists, alternative_names}
 use Rattle.uhura_plan.specs.Sound.{alternatives_product}
 use Rattle.uhura_plan.specs.Edits.{with_choice, choice_under, StatedChoice, AddsChoice}
-use Rattle.uhura_plan.specs.Refusals.{repeated_at, product_with, choice_refusal}
+use Rattle.uhura_plan.specs.Find.{choice_named}
+use Rattle.uhura_plan.specs.Refusals.{refuse_if, first_of, full, repeated_at, product_with, choice_refusal}
 use Rattle.uhura_gen.specs.Names.{choice_name, alternative_name, first_names}
 use Rattle.uhura_gen.specs.Items.{alternative, choice}
 use Rattle.uhura_gen.specs.Numbered.{IsNumbered}
 use Rattle.uhura_gen.proofs.Spelling.{unlike}
 use Rattle.uhura_gen.proofs.Naming.{alternative_family}
-use Rattle.uhura_gen.proofs.Adding.{passes, none_found, has_room, later_one}
+use Rattle.uhura_gen.proofs.Adding.{passes, none_found, has_room}
 use Rattle.uhura_gen.proofs.Numbering.{next_choice_unknown}
 use Rattle.uhura_gen.proofs.Making.{somes_injective}
 
 -- what holds of three items
 pub all_three : {X : Type 0} (P : X → Type 0) (a b c : X) → P a → P b → P c → All P (a ∷ b ∷ c ∷ [])
-all_three P a b c first second third = by
+all_three {X = X} P a b c first second third = by
   where
     by : (k : ℕ) (d : X) → k < 3 → P (get_or (a ∷ b ∷ c ∷ []) k d)
     by zero d within = first
@@ -70,16 +72,21 @@ three x = alternative x 0 ∷ alternative x 1 ∷ alternative x 2 ∷ []
 choice_unrefused : (plan : Lists) (x place : ℕ) → IsNumbered plan → length plan.choices ≡ place → place < 3 → choice_refusal plan (choice_name place) (three x) [] ≡ None
 choice_unrefused plan x place numbered next few =
     let branches = few_branches plan.choices (omega (arith, next, few)) numbered.alternatives in
-    later_one _ _ (passes _ Taken (none_found _ (next_choice_unknown plan place numbered next (omega (arith, few)))))
-    (later_one _ _ (passes _ Taken (none_found _ (once (alternative_name 0) (alternative_name 1) (alternative_name 2)
+    none_of_four
+    (refuse_if (is_some (choice_named plan (choice_name place))) Taken)
+    (refuse_if (is_some (repeated_at (alternative_name 0 ∷ alternative_name 1 ∷ alternative_name 2 ∷ []))) Taken)
+    (full 16 (length plan.choices))
+    (refuse_if (nat_lt 65536 (product_with plan (three x))) (Full 65536 (product_with plan (three x))))
+    (passes _ Taken (none_found _ (next_choice_unknown plan place numbered next (omega (arith, few)))))
+    (passes _ Taken (none_found _ (once (alternative_name 0) (alternative_name 1) (alternative_name 2)
     (names_apart 1 0 (omega arith) (omega arith) (λ e. omega (arith, e)))
     (names_apart 2 0 (omega arith) (omega arith) (λ e. omega (arith, e)))
     (names_apart 2 1 (omega arith) (omega arith) (λ e. omega (arith, e))))))
-    (later_one _ _ refl
-    (later_one _ _ refl
-    (later_one _ _ (has_room 16 (length plan.choices) (omega (arith, next, few)))
-    (later_one _ _ refl
-    (later_one _ _ (passes _ (Full 65536 (product_with plan (three x))) (not_passed 65536 (alternatives_product plan.choices * 3) (omega (arith, branches)))) refl))))))
+    (has_room 16 (length plan.choices) (omega (arith, next, few)))
+    (passes _ (Full 65536 (product_with plan (three x))) (not_passed 65536 (alternatives_product plan.choices * 3) (omega (arith, branches))))
+  where
+    none_of_four : (a b c d : Option EditRefusal) → a ≡ None → b ≡ None → c ≡ None → d ≡ None → first_of (a ∷ b ∷ None ∷ None ∷ c ∷ None ∷ d ∷ []) ≡ None
+    none_of_four a b c d e1 e2 e3 e4 = rw (e1, e2, e3, e4) refl
 
 -- it isn't refused
 pub choice_answer : (plan : Lists) (name : List ℕ) (first second third : List ℕ × ℕ) (x place : ℕ) → IsChoiceCall name first second third x place → IsNumbered plan → length plan.choices ≡ place → place < 3

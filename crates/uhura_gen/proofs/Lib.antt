@@ -6,3 +6,4 @@ mod Spelling
 mod Making
 mod Looping
 mod Choosing
+mod Generating

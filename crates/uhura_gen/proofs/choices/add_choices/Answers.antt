@@ -1,5 +1,5 @@
 -- Each choice is the next one.
-use Rattle.std.proofs.Common.{ap, ◌∙◌, arith}
+use Rattle.std.proofs.Common.{◌≡◌, ap, ◌∙◌, arith}
 use Rattle.uhura_gen.specs.Generator.{choices}
 use Rattle.uhura_gen.proofs.Looping.{no_choices, more_choices, count_choices}
 use Rattle.uhura_gen.proofs.choices.add_choices.Goals as goal
@@ -16,4 +16,6 @@ pub add_choice-requires-clause-place : goal.add_choice-requires-clause-place
 add_choice-requires-clause-place c = count_choices _ _ _ _ _ c.loop-place.invariant
 
 pub returns-clause-choices : goal.returns-clause-choices
-returns-clause-choices c = c.loop-place.invariant.list ∙ ap (λ n. record c.args.plan.now { choices = choices c.args.generator.now.x n }) (omega arith)
+returns-clause-choices c =
+    let all : c.loop-place.place ≡ 3 = omega arith in
+    c.loop-place.invariant.list ∙ ap (λ n. record c.args.plan.now { choices = choices c.args.generator.now.x n }) all
