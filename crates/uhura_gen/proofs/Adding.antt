@@ -1,5 +1,5 @@
 -- What no plan refuses.
-use Rattle.std.proofs.Common.{◌≡◌, ℕ, ◌+◌, ◌<◌, ◌≤◌, ℤ, ◌≤ℤ◌, Bool, true, false, List, [], ◌∷◌, length, Option, None, Some, Result, Ok, Err, is_ok, is_some, is_none, OnOk, int_lt, nat_le, bytes_eq, option_map, refl, ap, sym, ◌∙◌, subst, true≢false, arith}
+use Rattle.std.proofs.Common.{◌≡◌, ℕ, ◌+◌, ◌<◌, ℤ, ◌≤ℤ◌, Bool, false, List, ◌∷◌, length, Option, None, Some, Result, Ok, Err, is_ok, is_some, is_none, OnOk, int_lt, nat_le, bytes_eq, option_map, refl, ap, ◌∙◌, true≢false, arith}
 use Rattle.std.specs.Option.{option_or}
 use Rattle.std.proofs.lemmas.Bool.Decides.{nat_tests}
 use Rattle.std.proofs.lemmas.Int.{ints}
@@ -9,8 +9,8 @@ use Rattle.uhura_plan.specs.declared.requirement.Bounded.{Bounded}
 use Rattle.uhura_plan.specs.declared.refusal.EditRefusal.{EditRefusal}
 use Rattle.uhura_plan.specs.declared.refusal.EditRefusal.TheVariants.{Taken, Unknown, Kind, Empty, Full}
 use Rattle.uhura_plan.specs.Lists.{Lists, end_names}
-use Rattle.uhura_plan.specs.Find.{place_of, find_event, uncertain_named, choice_named, requirement_named}
-use Rattle.uhura_plan.specs.Refusals.{refuse_if, first_of, full, full_of_events, event_count, unknown_in, repeated_at, repeated_in, empty_between, is_end, event_refusal, uncertain_refusal, requirement_refusal}
+use Rattle.uhura_plan.specs.Find.{place_of, find_event, uncertain_named, requirement_named}
+use Rattle.uhura_plan.specs.Refusals.{refuse_if, first_of, full, full_of_events, event_count, unknown_in, repeated_in, empty_between, is_end, event_refusal, uncertain_refusal, requirement_refusal}
 
 -- an answer that is handed on keeps what holds where it is `Ok`
 pub handed_on : {X Y E F P Q : Type 0} (result : Result X E) (answer : Result Y F) → is_ok result ≡ is_ok answer → (P → Q) → OnOk answer P → OnOk result Q

@@ -1,5 +1,5 @@
 -- Draws one after another.
-use Rattle.std.proofs.Common.{◌≡◌, ℕ, zero, suc, ◌+◌, ◌*◌, refl, ap, sym, ◌∙◌, arith}
+use Rattle.std.proofs.Common.{◌≡◌, ℕ, zero, suc, ◌+◌, ◌*◌, ap, sym, ◌∙◌, arith}
 use Rattle.uhura_gen.specs.Draws.{following, after}
 
 -- draws behind others are draws from where those ended

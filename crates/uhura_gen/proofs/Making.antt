@@ -1,6 +1,5 @@
 -- What each call adds, and that no plan so far refuses it.
-use Rattle.std.proofs.Common.{◌≡◌, ℕ, zero, suc, ◌+◌, ◌-◌, ◌*◌, ◌/◌, ◌%◌, ◌<◌, ◌≤◌, ℤ, pos, ◌≤ℤ◌, to_z, of_z, w64, Bool, true, false, not, List, [], ◌∷◌, ◌++◌, length, map, get_or, Option, None, Some, is_some, position, bytes_eq, option_map, codes, refl, ap, sym, ◌∙◌, arith, append_assoc, length-append}
-use Rattle.std.specs.List.{list_any}
+use Rattle.std.proofs.Common.{◌≡◌, ℕ, ◌+◌, ◌-◌, ◌*◌, ◌%◌, ◌<◌, ◌≤◌, ℤ, pos, ◌≤ℤ◌, to_z, of_z, w64, true, false, not, List, [], ◌∷◌, ◌++◌, length, map, None, Some, is_some, position, bytes_eq, option_map, refl, ap, sym, ◌∙◌, arith, append_assoc, length-append}
 use Rattle.std.proofs.lemmas.List.{length-map, map_push, append-nil}
 use Rattle.std.proofs.lemmas.Int.{ints}
 use Rattle.std.proofs.lemmas.List.FromFn.{length-map-range_with_len}
@@ -12,7 +11,7 @@ use Rattle.uhura_plan.specs.declared.refusal.EditRefusal.TheVariants.{Unknown}
 use Rattle.uhura_plan.specs.declared.requirement.Bounded.{Bounded}
 use Rattle.uhura_plan.specs.declared.requirement.Requirement.{Requirement}
 use Rattle.uhura_plan.specs.Limits.{IsRangeEnd}
-use Rattle.uhura_plan.specs.Lists.{Lists, empty, requirement_names, slots}
+use Rattle.uhura_plan.specs.Lists.{Lists, empty, slots}
 use Rattle.uhura_plan.specs.Find.{find_event, choice_named, literal_named, requirement_named, place_of}
 use Rattle.uhura_plan.specs.Edits.{with_event, with_uncertain, with_requirement, StatedUncertain, uncertain_from, AddsUncertain, StatedRequirement, IsRequirementOf, AddsRequirement}
 use Rattle.uhura_plan.specs.Refusals.{carried, unknown_in, event_refusal, uncertain_refusal, requirement_refusal}
@@ -24,7 +23,7 @@ use Rattle.uhura_gen.specs.Generator.{plan_of_events}
 use Rattle.uhura_gen.specs.Numbered.{IsNumbered, HasRequirements, names_of_requirements}
 use Rattle.uhura_gen.proofs.Spelling.{unlike}
 use Rattle.uhura_gen.proofs.Naming.{event_family, step_family, stop_family, other_letter, no_first, no_next, no_place, in_neither}
-use Rattle.uhura_gen.proofs.Adding.{FitsUncertain, FitsRequirement, in_order, event_unrefused, uncertain_unrefused, requirement_unrefused}
+use Rattle.uhura_gen.proofs.Adding.{FitsRequirement, in_order, event_unrefused, uncertain_unrefused, requirement_unrefused}
 use Rattle.uhura_gen.proofs.Numbering.{first_names_more, least_slot, find_numbered_event, find_numbered_end, next_end_unknown, next_event_unknown, next_duration_unknown, find_numbered_choice, find_numbered_literal}
 
 -- the next controllable event isn't refused

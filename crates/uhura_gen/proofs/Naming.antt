@@ -1,14 +1,14 @@
 -- Where a numbered name stands in the list of the first ones, and that another doesn't.
-use Rattle.std.proofs.Common.{◌≡◌, ℕ, suc, zero, ◌+◌, ◌<◌, ◌≤◌, Bool, true, false, cond, ◌||◌, List, [], ◌∷◌, ◌++◌, length, map, get_or, decimal, Option, None, Some, position, bytes_eq, codes, nat_lt, refl, ap, sym, ◌∙◌, true≢false, arith}
-use Rattle.std.specs.List.{list_any, position_or_len, range_with_len}
+use Rattle.std.proofs.Common.{◌≡◌, ℕ, ◌+◌, ◌<◌, ◌≤◌, Bool, true, false, ◌||◌, List, [], ◌∷◌, ◌++◌, length, get_or, decimal, None, Some, bytes_eq, refl, ap, ◌∙◌, true≢false, arith}
+use Rattle.std.specs.List.{list_any, position_or_len}
 use Rattle.std.proofs.lemmas.Bool.Decides.{nat_tests}
 use Rattle.std.proofs.lemmas.Fmt.{decimal_injective}
-use Rattle.std.proofs.lemmas.List.Folds.{list_any_none, list_any-append, list_any_at}
+use Rattle.std.proofs.lemmas.List.Folds.{list_any_none, list_any-append}
 use Rattle.std.proofs.lemmas.List.FromFn.{length-map-range_with_len, get_or-map-range_with_len}
 use Rattle.std.proofs.lemmas.List.Sums.{position_or_len_is}
 use Rattle.std.proofs.lemmas.Slice.Eq.{bytes_eq-Decides}
 use Rattle.uhura_plan.specs.Find.{place_of}
-use Rattle.uhura_gen.specs.Names.{event_name, duration_name, end_name, choice_name, alternative_name, step_name, stop_name, whole_name, first_names}
+use Rattle.uhura_gen.specs.Names.{event_name, duration_name, end_name, choice_name, alternative_name, step_name, stop_name, first_names}
 use Rattle.uhura_gen.proofs.Spelling.{unlike}
 
 -- the names of two places below 500 are two names

@@ -1,25 +1,21 @@
 -- What stands where in a plan whose names are numbered, and that one more item keeps them so.
-use Rattle.std.proofs.Common.{◌≡◌, ℕ, zero, suc, ◌+◌, ◌*◌, ◌<◌, ◌≤◌, Bool, true, false, List, [], ◌∷◌, ◌++◌, length, map, get_or, Option, None, Some, All, slice_get, position, bytes_eq, option_map, option_and_then, refl, ap, sym, ◌∙◌, subst, arith, Contains}
-use Rattle.std.specs.List.{list_any, range_with_len}
-use Rattle.std.proofs.lemmas.List.{length-map, length_push, map_push}
+use Rattle.std.proofs.Common.{◌≡◌, ℕ, zero, suc, ◌+◌, ◌<◌, ◌≤◌, List, [], ◌∷◌, ◌++◌, length, map, get_or, None, Some, option_map, option_and_then, refl, ap, sym, ◌∙◌, arith, Contains}
+use Rattle.std.specs.List.{range_with_len}
+use Rattle.std.proofs.lemmas.List.{length_push, map_push}
 use Rattle.std.proofs.lemmas.List.Elements.{All-push}
 use Rattle.std.proofs.lemmas.List.FromFn.{length-map-range_with_len, map-range_with_len_more, length-range_with_len, get_or-range_with_len}
 use Rattle.std.proofs.lemmas.Option.{slice_get-get_or}
-use Rattle.uhura_plan.specs.declared.key.EventRef.{EventRef}
 use Rattle.uhura_plan.specs.declared.key.EventRef.TheVariants.{Controllable, End}
-use Rattle.uhura_plan.specs.declared.guard.Literal.{Literal}
-use Rattle.uhura_plan.specs.declared.uncertain.Uncertain.{Uncertain}
-use Rattle.uhura_plan.specs.declared.choice.Choice.{Choice}
 use Rattle.uhura_plan.specs.declared.requirement.Requirement.{Requirement}
-use Rattle.uhura_plan.specs.Lists.{Lists, empty, end_names, uncertain_names, choice_names, alternative_names, requirement_names, slots}
-use Rattle.uhura_plan.specs.Find.{place_of, find_event, uncertain_named, choice_named, alternative_named, requirement_named, literal_named}
-use Rattle.uhura_plan.specs.Edits.{IsLeastFree, with_event, with_uncertain, with_choice, with_requirement}
-use Rattle.uhura_gen.specs.Names.{up_to, event_name, duration_name, end_name, choice_name, alternative_name, step_name, stop_name, whole_name, first_names}
-use Rattle.uhura_gen.specs.Items.{duration, choice, alternative}
+use Rattle.uhura_plan.specs.Lists.{Lists, alternative_names, slots}
+use Rattle.uhura_plan.specs.Find.{place_of, find_event, uncertain_named, choice_named, alternative_named, literal_named}
+use Rattle.uhura_plan.specs.Edits.{IsLeastFree, with_uncertain, with_choice, with_requirement}
+use Rattle.uhura_gen.specs.Names.{up_to, event_name, duration_name, end_name, choice_name, alternative_name, first_names}
+use Rattle.uhura_gen.specs.Items.{duration, choice}
 use Rattle.uhura_gen.specs.Generator.{plan_of_events}
-use Rattle.uhura_gen.specs.Numbered.{IsNumbered, HasRequirements, names_of_requirements}
+use Rattle.uhura_gen.specs.Numbered.{IsNumbered}
 use Rattle.uhura_gen.proofs.Adding.{event_unknown, event_at, end_at}
-use Rattle.uhura_gen.proofs.Naming.{IsFamily, event_family, duration_family, end_family, choice_family, alternative_family, step_family, stop_family, other_letter, place_of-first, no_first, no_next, no_place, in_neither}
+use Rattle.uhura_gen.proofs.Naming.{event_family, duration_family, end_family, choice_family, alternative_family, other_letter, place_of-first, no_first, no_next, no_place}
 
 -- one more name, where the names are the first ones
 pub first_names_more : (name : ℕ → List ℕ) (n : ℕ) → first_names name (n + 1) ≡ first_names name n ++ name n ∷ []

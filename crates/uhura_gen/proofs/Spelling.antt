@@ -1,5 +1,5 @@
 -- A small letter and a number below 1,000 spell a name.
-use Rattle.std.proofs.Common.{◌≡◌, ℕ, suc, take, ◌+◌, ◌/◌, ◌%◌, ◌^◌, ◌<◌, ◌≤◌, Bool, true, false, not, ◌&&◌, ◌||◌, List, [], ◌∷◌, ◌++◌, length, get_or, decimal, codes, bytes_eq, leb, Result, Ok, Err, IsOk, IsErr, IsFalse, true≢false, refl, ap, sym, ◌∙◌, arith, length-append}
+use Rattle.std.proofs.Common.{◌≡◌, ℕ, suc, take, ◌+◌, ◌/◌, ◌%◌, ◌<◌, ◌≤◌, Bool, true, false, not, ◌&&◌, ◌||◌, List, [], ◌∷◌, ◌++◌, length, get_or, decimal, codes, bytes_eq, leb, Result, Ok, Err, IsOk, IsErr, IsFalse, true≢false, refl, ap, sym, ◌∙◌, arith, length-append}
 use Rattle.std.specs.List.{list_all}
 use Rattle.std.proofs.Math.Seq.{take-append_seam}
 use Rattle.std.proofs.lemmas.Bool.Decides.{nat_tests}
@@ -95,6 +95,7 @@ is_name-named letter n least most small =
   where
     ge_one : (w : List ℕ) → 1 ≤ length w → leb 1 (length w) ≡ true
     ge_one w some = grind (arith, nat_tests)
+
     le_most : (w : List ℕ) → length w ≤ 32 → leb (length w) 32 ≡ true
     le_most w some = grind (arith, nat_tests)
 

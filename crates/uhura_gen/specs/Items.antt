@@ -1,7 +1,6 @@
 -- The durations, choices and requirements that a generator at the number `x` gives.
 use Rattle.std.specs.Prelude.{ℕ, ◌+◌, ◌-◌, ◌*◌, ◌%◌, ℤ, pos, List, [], ◌∷◌, map, None, Some}
 use Rattle.uhura_plan.specs.declared.key.EventRef.TheVariants.{Controllable, End}
-use Rattle.uhura_plan.specs.declared.guard.Literal.{Literal}
 use Rattle.uhura_plan.specs.declared.price.Rate.{Rate}
 use Rattle.uhura_plan.specs.declared.uncertain.Uncertain.{Uncertain}
 use Rattle.uhura_plan.specs.declared.choice.Choice.{Choice}

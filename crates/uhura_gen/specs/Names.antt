@@ -1,5 +1,5 @@
 -- How the things of a generated plan are named.
-use Rattle.std.specs.Prelude.{ℕ, ◌+◌, List, ◌++◌, map, codes, decimal}
+use Rattle.std.specs.Prelude.{ℕ, List, ◌++◌, map, codes, decimal}
 use Rattle.std.specs.List.{range_with_len}
 
 -- the numbers from 0 on, so many

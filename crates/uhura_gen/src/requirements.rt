@@ -129,12 +129,14 @@ fn add_stop(plan: &mut Plan, generator: &mut Generator, place: u32) -> Result<()
     ensures stop { OnOk result (plan.new ≡ with_requirement plan.old
         (stop generator.old.x (length plan.old.events - 1 + place) place)) }
     ensures numbered { OnOk result (IsNumbered plan.new) }
-    ensures names { OnOk result (HasRequirements plan.new (length plan.old.events - 1) (place + 1)) }
+    ensures names { OnOk result
+        (HasRequirements plan.new (length plan.old.events - 1) (place + 1)) }
     ensures number { generator.new.x ≡ after generator.old.x 5 }
 {
     let span = generator.span(10, 30);
+    let pick = generator.draw(3);
     let choice = name_of(b'c', place % CHOICES);
-    let alternative = name_of(b'a', generator.draw(3));
+    let alternative = name_of(b'a', pick);
     unrefused(plan.add_requirement(
         name_of(b's', place),
         name_of(b'f', place),

@@ -1,7 +1,6 @@
 -- The names are new, and with it there is one choice more.
 use Rattle.std.proofs.Common.{◌%◌, subst, sym, ap, ◌∙◌}
 use Rattle.std.proofs.lemmas.Result.{on_ok_weaker}
-use Rattle.uhura_plan.specs.Limits.{IsAmount}
 use Rattle.uhura_plan.specs.Refusals.{Answers}
 use Rattle.uhura_gen.specs.Draws.{following}
 use Rattle.uhura_gen.specs.Numbered.{IsNumbered}

@@ -1,13 +1,11 @@
 -- The names are new, the start is there, and with it there is one duration more.
-use Rattle.std.proofs.Common.{◌≡◌, subst, sym}
+use Rattle.std.proofs.Common.{subst, sym}
 use Rattle.std.proofs.lemmas.Result.{on_ok_weaker}
-use Rattle.uhura_plan.specs.Edits.{with_uncertain, AddsUncertain}
 use Rattle.uhura_plan.specs.Refusals.{Answers}
-use Rattle.uhura_gen.specs.Items.{duration}
 use Rattle.uhura_gen.specs.Numbered.{IsNumbered}
 use Rattle.uhura_gen.proofs.Adding.{handed_on}
 use Rattle.uhura_gen.proofs.Numbering.{numbered_duration}
-use Rattle.uhura_gen.proofs.Making.{kept, IsDurationCall, TakesDuration, duration_answer, stated_of, adds_duration}
+use Rattle.uhura_gen.proofs.Making.{kept, TakesDuration, duration_answer, adds_duration}
 use Rattle.uhura_gen.proofs.durations.add_duration.Goals as goal
 
 takes : (c : goal.After-unrefused) → TakesDuration c.args.plan.now c.args.place

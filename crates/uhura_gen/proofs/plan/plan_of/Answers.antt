@@ -1,5 +1,5 @@
 -- Each part finds what it needs, and together they are the generated plan.
-use Rattle.std.proofs.Common.{◌≡◌, ◌+◌, ◌-◌, ◌*◌, ◌/◌, ◌++◌, length, subst, sym, ap, ◌∙◌, arith}
+use Rattle.std.proofs.Common.{◌≡◌, ◌-◌, ◌/◌, ◌++◌, length, subst, sym, ap, ◌∙◌, arith}
 use Rattle.uhura_gen.specs.Generator.{stops}
 use Rattle.uhura_gen.specs.Numbered.{IsNumbered, HasRequirements}
 use Rattle.uhura_gen.proofs.Generating.{count_events, all_durations, events_at_stops, made_in_turn}
@@ -78,7 +78,7 @@ returns c =
           ∙ ap (λ n. record c.add_steps.new.plan {
             requirements = c.add_steps.new.plan.requirements ++ stops c.add_steps.new.generator.x (n - 1) (c.args.events / 4);
           }) (events_at_stops c.args.number c.args.events c.add_durations.new.generator.x c.add_choices.new.generator.x c.add_events.new.plan c.add_durations.new.plan c.add_choices.new.plan c.add_steps.new.plan
-    c.in_ok-add_events.ensures c.in_ok-add_durations.ensures.durations c.in_ok-add_choices.ensures.choices c.in_ok-add_steps.ensures.steps);
+          c.in_ok-add_events.ensures c.in_ok-add_durations.ensures.durations c.in_ok-add_choices.ensures.choices c.in_ok-add_steps.ensures.steps);
       at_whole = c.in_ok-add_stops.ensures.number;
       whole_made = c.in_ok-add_whole.ensures;
     })

@@ -22,7 +22,7 @@ unrefused-requires c =
       lower_is = c.priced.ensures.side ∙ ap (λ b. priced b c.span-span.result.lower_price) (kept c.span-span.result.lower c.span-span.ensures.within.lower);
       upper_is = c.priced-2.ensures.side ∙ ap (λ b. priced b c.span-span.result.upper_price) (kept c.span-span.result.upper c.span-span.ensures.within.upper);
       choice_is = c.name_of-choice.ensures;
-      alternative_is = c.name_of-alternative.ensures ∙ ap alternative_name (c.draw.ensures.draw ∙ ap (λ y. following y % 3) c.span-span.ensures.number);
+      alternative_is = c.name_of-alternative.ensures ∙ ap alternative_name (c.draw-pick.ensures.draw ∙ ap (λ y. following y % 3) c.span-span.ensures.number);
       span_is = c.span-span.ensures.span;
       ordered = c.span-span.ensures.within.ordered;
     })
@@ -50,7 +50,7 @@ returns-clause-stop c =
       lower_is = c.priced.ensures.side ∙ ap (λ b. priced b c.span-span.result.lower_price) (kept c.span-span.result.lower c.span-span.ensures.within.lower);
       upper_is = c.priced-2.ensures.side ∙ ap (λ b. priced b c.span-span.result.upper_price) (kept c.span-span.result.upper c.span-span.ensures.within.upper);
       choice_is = c.name_of-choice.ensures;
-      alternative_is = c.name_of-alternative.ensures ∙ ap alternative_name (c.draw.ensures.draw ∙ ap (λ y. following y % 3) c.span-span.ensures.number);
+      alternative_is = c.name_of-alternative.ensures ∙ ap alternative_name (c.draw-pick.ensures.draw ∙ ap (λ y. following y % 3) c.span-span.ensures.number);
       span_is = c.span-span.ensures.span;
       ordered = c.span-span.ensures.within.ordered;
     })
