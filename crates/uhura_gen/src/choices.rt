@@ -1,5 +1,5 @@
 //! The choices.
-ghost use Rattle.std.specs.Prelude.{◌≡◌, ◌+◌, ◌*◌, ◌%◌, ◌<◌, ◌≤◌, [], length, OnOk};
+ghost use Rattle.std.specs.Prelude.{◌≡◌, ◌%◌, ◌<◌, [], length, OnOk};
 ghost use Rattle.uhura_plan.specs.Edits.{with_choice};
 ghost use Rattle.uhura_plan.specs.Limits.{IsAmount};
 ghost use Rattle.uhura_gen.specs.Draws.{following, after};

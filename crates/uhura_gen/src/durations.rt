@@ -1,5 +1,5 @@
 //! The durations.
-ghost use Rattle.std.specs.Prelude.{◌≡◌, ◌+◌, ◌*◌, ◌<◌, ◌≤◌, [], length, IsOk, OnOk};
+ghost use Rattle.std.specs.Prelude.{◌≡◌, ◌*◌, ◌<◌, ◌≤◌, [], length, OnOk};
 ghost use Rattle.uhura_plan.specs.Edits.{with_uncertain};
 ghost use Rattle.uhura_gen.specs.Draws.{after};
 ghost use Rattle.uhura_gen.specs.Items.{duration, plain_rate};

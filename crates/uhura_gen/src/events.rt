@@ -1,7 +1,6 @@
 //! The controllable events.
-ghost use Rattle.std.specs.Prelude.{◌≡◌, ◌+◌, ◌<◌, ◌≤◌, length, OnOk};
+ghost use Rattle.std.specs.Prelude.{◌≡◌, ◌+◌, ◌<◌, ◌≤◌, OnOk};
 ghost use Rattle.uhura_plan.specs.Lists.{empty};
-ghost use Rattle.uhura_gen.specs.Names.{event_name, first_names};
 ghost use Rattle.uhura_gen.specs.Generator.{plan_of_events};
 
 use crate::answer::unrefused;

@@ -1,5 +1,5 @@
 //! The requirements.
-ghost use Rattle.std.specs.Prelude.{◌≡◌, ◌+◌, ◌-◌, ◌*◌, ◌/◌, ◌<◌, ◌≤◌, ◌++◌, [], pos, ℤ, length, OnOk};
+ghost use Rattle.std.specs.Prelude.{◌≡◌, ◌+◌, ◌-◌, ◌*◌, ◌/◌, ◌<◌, ◌≤◌, ◌++◌, [], length, OnOk};
 ghost use Rattle.uhura_plan.specs.Limits.{IsBound, IsUnitPrice, AreWithinLimits};
 ghost use Rattle.uhura_plan.specs.Edits.{with_requirement};
 ghost use Rattle.uhura_gen.specs.Draws.{after};
