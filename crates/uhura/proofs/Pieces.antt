@@ -134,8 +134,11 @@ Runs-too_long {room = room} {refused = refused} {some = some} g buffer n k bound
       added = Appends-trans _ _ _ g.text a.text g.added a.added;
       leaves = (
         omega (arith, length-append g.bytes (take n buffer), length-take-le n buffer bound, g.size),
-        (refused || some, subst (λ l. Transcript (whole l) (g.text ++ a.text) (refused || some))
-            (sym (within-limit g.bytes buffer room n k g.size bound is)) (record { last = _; conversation = s.conversation })),
+        (
+          refused || some,
+          subst (λ l. Transcript (whole l) (g.text ++ a.text) (refused || some))
+              (sym (within-limit g.bytes buffer room n k g.size bound is)) (record { last = _; conversation = s.conversation }),
+        ),
       );
     }
 

@@ -1,5 +1,5 @@
 -- How answers that stand go on: by a byte, by the line that it ends, and at the end of the input.
-use Rattle.std.proofs.Common.{◌≡◌, ◌≢◌, ℕ, ◌+◌, ◌<◌, min, Bool, true, false, ◌||◌, ◌⊎◌, eqb, inl, inr, List, [], ◌∷◌, ◌++◌, length, take, drop, get_or, Option, Some, Result, Ok, Err, refl, sym, ap, ◌∙◌, subst, arith, append-nil, append_assoc}
+use Rattle.std.proofs.Common.{◌≡◌, ◌≢◌, ℕ, ◌+◌, ◌<◌, min, Bool, false, ◌||◌, ◌⊎◌, eqb, inl, inr, List, [], ◌∷◌, ◌++◌, length, take, drop, get_or, Some, Result, Ok, Err, refl, sym, ap, ◌∙◌, subst, arith, append-nil, append_assoc}
 use Rattle.std.proofs.Math.Bool.{or-false, or_assoc}
 use Rattle.std.proofs.Math.Seq.{take-append-add}
 use Rattle.std.proofs.KnownBytes.{Appends-nil, Appends-trans}
@@ -251,14 +251,6 @@ end-ended old new next fed line result ended f lent a =
     end-line old next line result h.0 (lent-line old.reading new line h.1 lent) a
 
 -- ---- bytes one after another
-
--- no bytes change nothing
-pub bytes-nil : (point : Point) → AnswersBytes [] point point (Ok false)
-bytes-nil point = record {
-  text = [];
-  added = Appends-nil point.written;
-  advances = λ bytes past refused s. rw (append-nil bytes, append-nil past, or-false refused) s;
-}
 
 -- bytes that were answered, and then more that were
 pub bytes-append : (xs ys : List ℕ) (first second third : Point) (some other : Bool)

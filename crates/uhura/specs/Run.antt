@@ -40,8 +40,8 @@ pub record IsFrontOfAnswers (ls : List (List ℕ)) (text : List ℕ) : Type 0 wh
 abbrev pub IsTranscript : List ℕ → List ℕ → Type 0
 IsTranscript bytes text = (refused : Bool) × Transcript bytes text refused
 
--- the lines that a run may answer of the bytes that it read: their whole lines within the limit, and an unfinished last
--- one only where the source is at its end within the limit
+-- the lines that a run may answer of the bytes that it read: their whole lines within the limit, and an unfinished
+-- last one only where the source is at its end within the limit
 abbrev pub AreRead : List (List ℕ) → List ℕ → Option (List ℕ) → Type 0
 AreRead ls bytes left =
     (ls ≡ lines (whole (take SCRIPT_LIMIT bytes)))
@@ -63,7 +63,8 @@ Leaves TooLong bytes text left =
 Leaves ReadFault bytes text left = (length bytes ≤ SCRIPT_LIMIT) × IsTranscript (whole bytes) text
 Leaves WriteFault bytes text left =
     (ls : List (List ℕ)) × AreRead ls bytes left × IsFrontOfAnswers ls text
-Leaves NoMemory bytes text left = (ls : List (List ℕ)) × AreRead ls bytes left × AnswersFirst ls text
+Leaves NoMemory bytes text left =
+    (ls : List (List ℕ)) × AreRead ls bytes left × AnswersFirst ls text
 
 -- the run of a script took bytes from the source and added a text to the sink, as its status says
 pub record RunsScript (before after : Ends) (status : Status) : Type 0 where
@@ -78,8 +79,8 @@ abbrev pub Runs : Option Task → Ends → Ends → Status → Type 0
 Runs None before after status = status ≡ Usage
 Runs (Some Script) before after status = RunsScript before after status
 
--- by the bytes given before and after: a script that was read to its end, or to a read fault, is within the limit, and
--- one that is too long is past it
+-- by the bytes given before and after: a script that was read to its end, or to a read fault, is within the limit,
+-- and one that is too long is past it
 abbrev pub HasSize : Status → ℕ → ℕ → Type 0
 HasSize Done old new = new ≤ old + SCRIPT_LIMIT
 HasSize Refused old new = new ≤ old + SCRIPT_LIMIT

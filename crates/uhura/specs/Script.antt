@@ -1,8 +1,9 @@
 -- What the steps of a run leave: one line, some bytes, the end of the input.
-use Rattle.std.specs.Prelude.{◌≡◌, ℕ, ◌≤◌, Bool, true, false, ◌||◌, List, [], ◌++◌, take, Option, Result, Ok, Err}
+use Rattle.std.specs.Prelude.{◌≡◌, ℕ, ◌+◌, ◌≤◌, Bool, true, false, ◌||◌, List, [], ◌++◌, take, Option, Result, Ok, Err}
 use Rattle.std.specs.Io.KnownBytes.{Appends}
 use Rattle.uhura_io.specs.Streams.{AppendsFront, HasRisen}
 use Rattle.uhura_text.specs.Lines.{lines, whole, behind}
+use Rattle.uhura_text.specs.declared.lines.TheConstants.{LINE_LIMIT}
 use Rattle.uhura_text.specs.Reading.{Reading}
 use Rattle.uhura_veto.specs.State.{State}
 use Rattle.uhura_command.specs.State.{empty_state}
@@ -32,7 +33,8 @@ pub record HasStopCause (old new : ℕ) (result : Result Bool Stop) : Type 0 whe
 
 -- the line has this answer in a state, refused or not, and leaves some state
 abbrev pub IsAnswerTo : State → List ℕ → List ℕ → Type 0
-IsAnswerTo state line text = (refused : Bool) × (last : State) × Answers state line text refused last
+IsAnswerTo state line text =
+    (refused : Bool) × (last : State) × Answers state line text refused last
 
 -- the line's answer was written; or a front of it, where the sink failed; or nothing, where there was no memory
 abbrev pub AnswersLine : List ℕ → Talk → Result Bool Stop → Talk → Type 0
@@ -40,12 +42,13 @@ AnswersLine line before (Ok refused) after =
     (text : List ℕ) × Answers before.state line text refused after.state
     × Appends before.written after.written text
 AnswersLine line before (Err WriteFault) after =
-    (text : List ℕ) × IsAnswerTo before.state line text × AppendsFront before.written after.written text
+    (text : List ℕ) × IsAnswerTo before.state line text
+    × AppendsFront before.written after.written text
 AnswersLine line before (Err NoMemory) after = Appends before.written after.written []
 
--- what a reader holds of the bytes: the first 4,097 bytes behind their last newline
+-- what a reader holds of the bytes: the first bytes behind their last newline, one past the limit of a line
 abbrev pub held_of : List ℕ → List ℕ
-held_of bytes = take 4097 (behind bytes)
+held_of bytes = take (LINE_LIMIT + 1) (behind bytes)
 
 -- the bytes so far are answered up to their last newline by the text, and the reader holds what is behind it
 pub record Stands (bytes text : List ℕ) (refused : Bool) (point : Point) : Type 0 where
@@ -63,7 +66,8 @@ Advances bytes text refused (Ok some) after = Stands bytes text (refused || some
 Advances bytes text refused (Err why) after = Stops why (lines (whole bytes)) text
 
 -- more bytes were fed: they added a text to what was written, which goes on whatever stood answered before
-pub record AnswersBytes (more : List ℕ) (before after : Point) (result : Result Bool Stop) : Type 0 where
+pub record AnswersBytes (more : List ℕ) (before after : Point) (result : Result Bool Stop)
+    : Type 0 where
   pub text : List ℕ
   pub added : Appends before.written after.written text
   pub advances : (bytes past : List ℕ) (refused : Bool) → Stands bytes past refused before
@@ -75,7 +79,8 @@ Completes bytes text refused (Ok some) = Transcript bytes text (refused || some)
 Completes bytes text refused (Err why) = Stops why (lines bytes) text
 
 -- the end of the input was told: it added a text to what was written, which completes whatever stood answered before
-pub record AnswersEnd (before : Point) (after : Option (List ℕ)) (result : Result Bool Stop) : Type 0 where
+pub record AnswersEnd (before : Point) (after : Option (List ℕ)) (result : Result Bool Stop)
+    : Type 0 where
   pub text : List ℕ
   pub added : Appends before.written after text
   pub completes : (bytes past : List ℕ) (refused : Bool) → Stands bytes past refused before
@@ -95,7 +100,8 @@ CompletesAs bytes text status.NoMemory = AnswersFirst (lines bytes) text
 CompletesAs bytes text _ = ⊥
 
 -- the end of the input was told, and this is the run's status
-pub record EndsRun (before : Point) (after : Option (List ℕ)) (refused : Bool) (result : Status) : Type 0 where
+pub record EndsRun (before : Point) (after : Option (List ℕ)) (refused : Bool) (result : Status)
+    : Type 0 where
   pub text : List ℕ
   pub added : Appends before.written after text
   pub completes : (bytes past : List ℕ) → Stands bytes past refused before

@@ -14,12 +14,12 @@ use uhura_text::Lines;
 /// Does what the words ask for. With no word, or the one word `run`, it reads a script from the source and writes the
 /// answers to its lines, in order, to the sink.
 ///
-/// What was written is known by `outcome` where the source tells its bytes and the sink tells what was written: so only
-/// there are Done and Refused told apart. The causes of the other statuses hold of every source and every sink, that of
-/// `TooLong` by the number of bytes given, where it is below 2^63 at the call.
+/// `outcome` speaks of the bytes where the source tells what it has left and the sink what was written: only there
+/// are Done and Refused told apart. The causes of the other statuses hold of every source and sink, that of `TooLong`
+/// by the number of bytes given, where it is below 2^63 at the call.
 ///
-/// Each read asks for 4,096 bytes, and the answers to all whole lines that were read are written before the next read.
-/// No clause says so: it is tested. An answer is composed in memory before its first byte is written.
+/// Each read asks for 4,096 bytes, and the answers to all whole lines that were read are written before the next
+/// read. No clause says so: it is tested. An answer is composed in memory before its first byte is written.
 pub fn run<S: Source, K: Sink>(
     alloc: Global,
     words: &Vec<String>,
@@ -32,7 +32,8 @@ pub fn run<S: Source, K: Sink>(
     ensures untouched { result ≡ Usage → (source.new ≡ source.old) × (sink.new ≡ sink.old) }
 
     // These hold of a source and a sink that tell nothing, too.
-    ensures size { S.given source.old < 2 ^ 63 → HasSize result (S.given source.old) (S.given source.new) }
+    ensures size { S.given source.old < 2 ^ 63 →
+        HasSize result (S.given source.old) (S.given source.new) }
     ensures read_fault { HasFault ReadFault result (S.faults source.old) (S.faults source.new) }
     ensures write_fault { HasFault WriteFault result (K.faults sink.old) (K.faults sink.new) }
 {
@@ -47,7 +48,8 @@ fn run_script<S: Source, K: Sink>(alloc: Global, source: &mut S, sink: &mut K) -
     ensures outcome { RunsScript
         (record { left = S.left source.old; written = K.written sink.old })
         (record { left = S.left source.new; written = K.written sink.new }) result }
-    ensures size { S.given source.old < 2 ^ 63 → HasSize result (S.given source.old) (S.given source.new) }
+    ensures size { S.given source.old < 2 ^ 63 →
+        HasSize result (S.given source.old) (S.given source.new) }
     ensures read_fault { HasFault ReadFault result (S.faults source.old) (S.faults source.new) }
     ensures write_fault { HasFault WriteFault result (K.faults sink.old) (K.faults sink.new) }
 {

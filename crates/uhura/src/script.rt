@@ -52,7 +52,8 @@ fn feed<K: Sink>(
 ) -> Result<bool, Stop>
     ensures bytes { AnswersBytes (byte ∷ [])
         (record { reading = lines.old; state = session.old.state; written = K.written sink.old })
-        (record { reading = lines.new; state = session.new.state; written = K.written sink.new }) result }
+        (record { reading = lines.new; state = session.new.state; written = K.written sink.new })
+        result }
     ensures cause { HasStopCause (K.faults sink.old) (K.faults sink.new) result }
 {
     match lines.feed(byte) {
@@ -83,7 +84,8 @@ fn feed_all<K: Sink>(
 ) -> Result<bool, Stop>
     ensures bytes { AnswersBytes bytes.now
         (record { reading = lines.old; state = session.old.state; written = K.written sink.old })
-        (record { reading = lines.new; state = session.new.state; written = K.written sink.new }) result }
+        (record { reading = lines.new; state = session.new.state; written = K.written sink.new })
+        result }
     ensures cause { HasStopCause (K.faults sink.old) (K.faults sink.new) result }
 {
     let mut refused = false;
@@ -109,7 +111,8 @@ pub(crate) fn answer_script<S: Source, K: Sink>(
     ensures outcome { RunsScript
         (record { left = S.left source.old; written = K.written sink.old })
         (record { left = S.left source.new; written = K.written sink.new }) result }
-    ensures size { S.given source.old < 2 ^ 63 → HasSize result (S.given source.old) (S.given source.new) }
+    ensures size { S.given source.old < 2 ^ 63 →
+        HasSize result (S.given source.old) (S.given source.new) }
     ensures read_fault { HasFault ReadFault result (S.faults source.old) (S.faults source.new) }
     ensures write_fault { HasFault WriteFault result (K.faults sink.old) (K.faults sink.new) }
 {

@@ -23,7 +23,8 @@ holds guard picks = list_all (is_picked picks) guard
 
 -- the choice at this place is active: it is there, and its guard holds
 abbrev pub is_active : List Choice → List Pick → ℕ → Bool
-is_active choices picks place = option_map_or (λ c. holds c.guard picks) (slice_get choices place) false
+is_active choices picks place =
+    option_map_or (λ c. holds c.guard picks) (slice_get choices place) false
 
 -- an entry fits a choice after the entries before it: an alternative of the choice where its guard holds
 -- there, and nothing where it doesn't
@@ -64,7 +65,8 @@ pick_cost c (Alternative a) =
 -- what the pick at this place costs: nothing where there is none, or no such choice
 abbrev pub cost_at : List Choice → List Pick → ℕ → ℕ
 cost_at choices picks place =
-    option_map_or (λ c. option_map_or (pick_cost c) (slice_get picks place) 0) (slice_get choices place) 0
+    option_map_or (λ c. option_map_or (pick_cost c) (slice_get picks place) 0)
+    (slice_get choices place) 0
 
 -- the costs of all picks together
 abbrev pub picked_cost : List Choice → List Pick → ℕ

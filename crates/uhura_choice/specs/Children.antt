@@ -30,9 +30,12 @@ IsOneLonger picks longer = (x : Pick) × (longer ≡ picks ++ x ∷ [])
 
 -- the list has the prefixes that are one entry longer, all of them, once and in order; it is empty exactly
 -- behind a whole branch
-pub record AreChildren (choices : List Choice) (picks : List Pick) (list : List (List Pick)) : Type 0 where
-  pub only : (longer : List Pick) → Contains list longer → IsPrefix choices longer × IsOneLonger picks longer
-  pub all : (longer : List Pick) → IsPrefix choices longer → IsOneLonger picks longer → Contains list longer
+pub record AreChildren (choices : List Choice) (picks : List Pick) (list : List (List Pick))
+    : Type 0 where
+  pub only : (longer : List Pick) → Contains list longer
+      → IsPrefix choices longer × IsOneLonger picks longer
+  pub all : (longer : List Pick) → IsPrefix choices longer → IsOneLonger picks longer
+      → Contains list longer
   pub order : AllPairs IsEarlier list
   pub none : length list ≡ 0 ↔ IsBranch choices picks
 

@@ -20,7 +20,8 @@ pub record IsFirstFrom (choices : List Choice) (picks branch : List Pick) : Type
 
 -- no branch is later
 abbrev pub IsLastBranch : List Choice → List Pick → Type 0
-IsLastBranch choices branch = (other : List Pick) → IsBranch choices other → IsEarlier branch other → ⊥
+IsLastBranch choices branch =
+    (other : List Pick) → IsBranch choices other → IsEarlier branch other → ⊥
 
 -- a later branch, and nothing lies between: each later branch is this one or later than it
 pub record IsNextBranch (choices : List Choice) (branch next : List Pick) : Type 0 where
@@ -61,4 +62,5 @@ later_pick c (Alternative a) =
 -- the same for the pick at this place and its choice
 abbrev pub later_at : List Choice → List Pick → ℕ → Option Pick
 later_at choices picks place =
-    option_and_then (λ c. option_and_then (later_pick c) (slice_get picks place)) (slice_get choices place)
+    option_and_then (λ c. option_and_then (later_pick c) (slice_get picks place))
+    (slice_get choices place)

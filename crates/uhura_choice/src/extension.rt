@@ -32,8 +32,8 @@ pub fn child(plan: &Plan, prefix: &Prefix, index: u32) -> Prefix
     longer
 }
 
-/// The alternative, by its place in the choice at this place, where that choice is active after the prefix, and nothing
-/// where it isn't.
+/// The alternative, by its place in the choice at this place, where that choice is active after the prefix, and
+/// nothing where it isn't.
 pub(crate) fn entry(plan: &Plan, prefix: &Prefix, choice: u32, alternative: u32) -> Pick
     ensures entry { result ≡ (if is_active plan.now.choices prefix.now choice
         then Pick.Alternative alternative else Pick.Inactive) }

@@ -12,8 +12,8 @@ pub fn holds(guard: &Guard, prefix: &Prefix) -> bool
     all_picked(guard.literals(), prefix.entries())
 }
 
-/// Whether the guard of the choice at this place holds in the prefix, which is to have an entry for each choice before
-/// it. There is none behind the last choice.
+/// Whether the guard of the choice at this place holds in the prefix, which is to have an entry for each choice
+/// before it. There is none behind the last choice.
 pub fn active(plan: &Plan, prefix: &Prefix, choice: u32) -> bool
     ensures { result ≡ is_active plan.now.choices prefix.now choice }
 {

@@ -1,5 +1,5 @@
-//! What follows from the definitions: each contract is a law, and the bodies are empty. A prefix goes on by its children,
-//! and the walk by next branches meets each branch once.
+//! What follows from the definitions: each contract is a law, and the bodies are empty. A prefix goes on by its
+//! children, and the walk by next branches meets each branch once.
 ghost use Rattle.std.specs.Prelude.{List};
 ghost use Rattle.uhura_plan.specs.Lists.{Lists};
 ghost use Rattle.uhura_plan.specs.Sound.{IsSound};
@@ -17,12 +17,13 @@ pub fn children_are_prefixes()
 
 /// A branch that a prefix begins, and that is longer, is begun by exactly one child of the prefix.
 pub fn one_child_begins_a_branch()
-    ensures { (plan : Lists) (picks branch : List Pick) → IsSound plan → IsBranch plan.choices branch →
-        IsFrontOf picks branch → (IsBranch plan.choices picks → ⊥) → HasOneChild plan.choices picks branch }
+    ensures { (plan : Lists) (picks branch : List Pick) → IsSound plan →
+        IsBranch plan.choices branch → IsFrontOf picks branch → (IsBranch plan.choices picks → ⊥) →
+        HasOneChild plan.choices picks branch }
 {}
 
-/// There is a walk from a first branch on by next branches to the last, and each such walk lists every branch once, in
-/// order.
+/// There is a walk from a first branch on by next branches to the last, and each such walk lists every branch once,
+/// in order.
 pub fn branches_are_walked()
     ensures { (plan : Lists) → IsSound plan → AreWalked plan.choices }
 {}

@@ -1,6 +1,6 @@
-//! Branches: one pick for each choice, in the order of the choices. What a branch is, which of two is earlier, and what
-//! is active in it stand in `specs/Branch.antt`. `laws` says that the children of prefixes, and the walk from branch to
-//! branch, miss none. No call takes memory.
+//! Branches: one pick for each choice, in the order of the choices. What a branch is, which of two is earlier, and
+//! what is active in it stand in `specs/Branch.antt`. `laws` says that the children of prefixes, and the walk from
+//! branch to branch, miss none. No call takes memory.
 #![tactic(auto)]
 
 mod cost;

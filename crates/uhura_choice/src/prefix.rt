@@ -2,6 +2,7 @@
 ghost use Rattle.std.specs.Prelude.{◌≡◌, ◌<◌, ◌≤◌, [], ◌∷◌, ◌++◌, length, take};
 
 use std::marker::Model;
+use uhura_plan::CHOICES;
 
 /// What a branch has for a choice: an alternative, by its place, or nothing where the choice's guard doesn't hold.
 #[derive(Clone, Copy, Debug, PartialEq, Eq)]
@@ -10,10 +11,10 @@ pub enum Pick {
     Inactive,
 }
 
-/// The first picks of a branch, at most one for each of the 16 choices.
+/// The first picks of a branch, at most one for each choice.
 #[derive(Drop)]
 pub struct Prefix {
-    picks: [Pick; 16],
+    picks: [Pick; CHOICES as usize],
     len: u8,
 }
 
@@ -22,13 +23,14 @@ pub type Branch = Prefix;
 
 impl Model for Prefix {
     ghost use Rattle.std.specs.Prelude.{List, take, ◌≤◌};
+    ghost use Rattle.uhura_plan.specs.declared.limits.TheConstants.{CHOICES};
     ghost use Rattle.uhura_choice.specs.declared.prefix.Pick.{Pick};
 
     ghost Value = { List Pick };
 
     ghost view = { λ p. take p.len p.picks };
 
-    ghost invariant = { λ p. p.len ≤ 16 };
+    ghost invariant = { λ p. p.len ≤ CHOICES };
 }
 
 impl Prefix {
@@ -37,7 +39,7 @@ impl Prefix {
         ensures { result ≡ [] }
     {
         Prefix {
-            picks: [Pick::Inactive; 16],
+            picks: [Pick::Inactive; CHOICES as usize],
             len: 0,
         }
     }
@@ -45,7 +47,7 @@ impl Prefix {
     /// The picks in the order of the choices.
     pub fn entries(&self) -> &[Pick]
         ensures entries { result.now ≡ self.now }
-        ensures few { length self.now ≤ 16 }
+        ensures few { length self.now ≤ CHOICES }
     {
         &self.picks[..self.len as usize]
     }
@@ -63,7 +65,7 @@ impl Prefix {
 
     /// Appends a pick.
     pub(crate) fn push(&mut self, pick: Pick)
-        requires { length self.old < 16 }
+        requires { length self.old < CHOICES }
         ensures { self.new ≡ self.old ++ pick ∷ [] }
     {
         self.picks[self.len as usize] = pick;

@@ -6,7 +6,7 @@ ghost use Rattle.uhura_choice.specs.Walk.{IsFirstBranch, IsFirstFrom, IsLastBran
 
 use crate::extension::entry;
 use crate::{Branch, Pick, Prefix};
-use uhura_plan::{Choice, Plan};
+use uhura_plan::{ALTERNATIVES, Choice, Plan};
 
 /// The first branch of the plan.
 pub fn first_branch(plan: &Plan) -> Branch
@@ -49,7 +49,7 @@ fn later_at(plan: &Plan, picks: &[Pick], place: u32) -> Option<Pick>
 
 /// The alternative after this one in the choice, where there is one.
 fn later_pick(choice: &Choice, pick: Pick) -> Option<Pick>
-    requires { length choice.now.alternatives ≤ 16 }
+    requires { length choice.now.alternatives ≤ ALTERNATIVES }
     ensures { result ≡ later_pick choice.now pick }
 {
     let Pick::Alternative(alternative) = pick else {

@@ -3,7 +3,7 @@
 #![tactic(auto)]
 
 mod error;
-pub mod law;
+pub mod laws;
 mod state;
 
 pub use error::{put_line_error, put_state_error, put_unbuilt};

@@ -24,5 +24,5 @@ abbrev pub AppendsFront : Option (List ℕ) → Option (List ℕ) → List ℕ �
 AppendsFront old new bs = (n : ℕ) × (n ≤ length bs) × Appends old new (take n bs)
 
 -- a count that rises by n, up to its last value
-abbrev pub raised : ℕ → ℕ → ℕ
-raised count n = min (count + n) last_count
+abbrev pub count_up : ℕ → ℕ → ℕ
+count_up count n = min (count + n) last_count

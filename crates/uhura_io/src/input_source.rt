@@ -49,7 +49,8 @@ impl<R: Read> Source for InputSource<R> {
     /// One read of the system. An error of its own is counted, and is Failed here.
     fn read(&mut self, into: &mut [u8]) -> Result<usize, Failed>
         ensures bound { ReadsAtMost result into.new }
-        ensures bytes { ReadConsumes (R.remaining self.old.reader) (R.remaining self.new.reader) result into.new }
+        ensures bytes { ReadConsumes (R.remaining self.old.reader) (R.remaining self.new.reader)
+            result into.new }
         ensures count { Counts self.old.given self.new.given result }
         ensures cause { HasCause self.old.faults self.new.faults result }
 

@@ -44,7 +44,8 @@ impl<W: Write> Sink for OutputSink<W> {
     fn write(&mut self, bytes: &[u8]) -> Result<usize, Failed>
         ensures bound { WritesAtMost result bytes.now }
         ensures progress { IfOk result (λ n. 0 < length bytes.now → 0 < n) }
-        ensures bytes { WriteAppends (W.contents self.old.writer) (W.contents self.new.writer) result bytes.now }
+        ensures bytes { WriteAppends (W.contents self.old.writer) (W.contents self.new.writer)
+            result bytes.now }
         ensures cause { HasCause self.old.faults self.new.faults result }
 
         ensures faults { self.new.faults ≡ faults_after self.old.faults result }

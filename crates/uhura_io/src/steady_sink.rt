@@ -2,7 +2,7 @@
 ghost use Rattle.std.specs.Prelude.{◌≡◌, ◌<◌, None, Ok, IfOk, length};
 ghost use Rattle.std.specs.Io.{WritesAtMost};
 ghost use Rattle.std.specs.Io.KnownBytes.{WriteAppends};
-ghost use Rattle.uhura_io.specs.Streams.{HasCause, raised};
+ghost use Rattle.uhura_io.specs.Streams.{HasCause, count_up};
 
 use crate::{Failed, Sink};
 use std::marker::Model;
@@ -44,7 +44,7 @@ impl Sink for SteadySink {
         ensures cause { HasCause 0 0 result }
 
         ensures all { result ≡ Ok (length bytes.now) }
-        ensures taken { self.new ≡ raised self.old (length bytes.now) }
+        ensures taken { self.new ≡ count_up self.old (length bytes.now) }
     {
         self.taken = self.taken.saturating_add(bytes.len() as u64);
         Ok(bytes.len())

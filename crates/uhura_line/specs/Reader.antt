@@ -35,9 +35,8 @@ ended found (word ∷ more) = None
 
 -- UNITS and PRICE
 abbrev pub units_and_price : List Word → Option (Option Past × List Word)
-units_and_price [] = None
-units_and_price (units ∷ []) = None
 units_and_price (units ∷ next ∷ more) = Some (Some record { units = units; price = next }, more)
+units_and_price words = None
 
 -- the second price, where the words begin with `past`
 abbrev pub past_part : List Word → Option (Option Past × List Word)
@@ -128,19 +127,13 @@ kind_in word =
 
 -- the next three words, and the words behind them
 abbrev pub next_three : List Word → Option (Word × Word × Word × List Word)
-next_three [] = None
-next_three (a ∷ []) = None
-next_three (a ∷ b ∷ []) = None
 next_three (a ∷ b ∷ c ∷ more) = Some (a, b, c, more)
+next_three words = None
 
 -- the next five words, and the words behind them
 abbrev pub next_five : List Word → Option (Word × Word × Word × Word × Word × List Word)
-next_five [] = None
-next_five (a ∷ []) = None
-next_five (a ∷ b ∷ []) = None
-next_five (a ∷ b ∷ c ∷ []) = None
-next_five (a ∷ b ∷ c ∷ d ∷ []) = None
 next_five (a ∷ b ∷ c ∷ d ∷ e ∷ more) = Some (a, b, c, d, e, more)
+next_five words = None
 
 -- ---- the form of the words behind each verb
 
@@ -199,9 +192,8 @@ abbrev pub prefer_in : List Word → Option Form
 prefer_in words = next_three words >>= λ w. ended (prefer w.0 w.1 w.2) w.3
 
 abbrev pub deny_in : List Word → Option Form
-deny_in [] = None
-deny_in (name ∷ []) = None
 deny_in (name ∷ word ∷ more) = pairs_of (word ∷ more) >>= λ literals. Some (deny name literals)
+deny_in words = None
 
 abbrev pub cap_in : List Word → Option Form
 cap_in words = next_five words >>= λ w. kind_in w.1 >>= λ kind. side_in w.3 >>= λ side.

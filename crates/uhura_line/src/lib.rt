@@ -2,7 +2,7 @@
 #![tactic(auto)]
 
 mod command;
-pub mod law;
+pub mod laws;
 mod literals;
 mod parsing;
 mod part;

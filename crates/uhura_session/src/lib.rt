@@ -5,7 +5,7 @@ mod answer;
 mod branches;
 mod edit;
 mod flags;
-pub mod law;
+pub mod laws;
 mod propose;
 mod session;
 mod solver;

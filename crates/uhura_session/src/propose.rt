@@ -9,9 +9,9 @@ ghost use Rattle.uhura_session.specs.Branches.{IsOpen};
 ghost use Rattle.uhura_session.specs.Unpriced.{IsUnpriced};
 
 use crate::branches::best_branch;
-use uhura_cert::put_proposal;
 use crate::solver::Solver;
 use std::alloc::{AllocError, Global};
+use uhura_cert::put_proposal;
 use uhura_choice::Branch;
 use uhura_command::{State, put_unbuilt};
 use uhura_plan::{Plan, Requirement, Side, Uncertain};

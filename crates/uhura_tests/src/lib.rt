@@ -7,6 +7,8 @@
 #[cfg(test)]
 mod copies;
 #[cfg(test)]
+mod generated;
+#[cfg(test)]
 mod given;
 #[cfg(test)]
 mod loosenings;

@@ -1,7 +1,9 @@
 //! What is asked of the prefixes of branches.
 use crate::given::name;
 use std::test::Fail;
-use uhura_choice::{Pick, Prefix, active, child, children, compare, first_branch, holds, next_branch, picked_cost};
+use uhura_choice::{
+    Pick, Prefix, active, child, children, compare, first_branch, holds, next_branch, picked_cost,
+};
 use uhura_plan::{Guard, Plan};
 
 /// Whether there is a second branch, which compares as later than the first.

@@ -1,5 +1,6 @@
 -- The lines of a list of bytes.
-use Rattle.std.specs.Prelude.{ℕ, ◌-◌, ◌==◌, nat_le, List, [], ◌∷◌, length, map, take, drop, slice_index, if◌then◌else◌}
+use Rattle.std.specs.Prelude.{ℕ, ◌+◌, ◌-◌, ◌==◌, nat_le, List, [], ◌∷◌, length, map, take, drop, slice_index, if◌then◌else◌}
+use Rattle.uhura_text.specs.declared.lines.TheConstants.{LINE_LIMIT}
 
 -- a byte in front of the first line, which it begins where there is none
 abbrev pub before_first_line : ℕ → List (List ℕ) → List (List ℕ)
@@ -17,7 +18,7 @@ without_cr l = if slice_index l (length l - 1) == 13 then take (length l - 1) l 
 
 -- a line as its reader sees it: without its CR where it has at most 4,096 bytes, else its first 4,097 bytes
 unfoldable pub shown : List ℕ → List ℕ
-shown l = if nat_le (length l) 4096 then without_cr l else take 4097 l
+shown l = if nat_le (length l) LINE_LIMIT then without_cr l else take (LINE_LIMIT + 1) l
 
 -- the lines of the bytes, an unfinished last one included
 unfoldable pub lines : List ℕ → List (List ℕ)

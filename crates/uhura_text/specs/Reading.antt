@@ -1,6 +1,7 @@
 -- A reader of lines as contracts see it, and what its calls leave.
-use Rattle.std.specs.Prelude.{◌≡◌, ◌≢◌, ℕ, ◌<◌, ◌≤◌, List, [], ◌∷◌, ◌++◌, length, take, Option, Some, None}
+use Rattle.std.specs.Prelude.{◌≡◌, ◌≢◌, ℕ, ◌+◌, ◌<◌, ◌≤◌, List, [], ◌∷◌, ◌++◌, length, take, Option, Some, None}
 use Rattle.uhura_text.specs.Lines.{shown}
+use Rattle.uhura_text.specs.declared.lines.TheConstants.{LINE_LIMIT}
 use Rattle.uhura_text.specs.declared.lines.Fed.{Fed}
 use Rattle.uhura_text.specs.declared.lines.Fed.TheVariants.{More, Line, Long}
 
@@ -20,12 +21,13 @@ HandsOver old new = (new.held ≡ []) × (new.line ≡ Some (shown old.held))
 -- the held line was ended, and is long past 4,096 bytes
 abbrev pub Ends : Reading → Fed → Reading → Type 0
 Ends old More new = ⊥
-Ends old Line new = (length old.held ≤ 4096) × HandsOver old new
-Ends old Long new = (4096 < length old.held) × HandsOver old new
+Ends old Line new = (length old.held ≤ LINE_LIMIT) × HandsOver old new
+Ends old Long new = (LINE_LIMIT < length old.held) × HandsOver old new
 
 -- a byte: a newline (10) ends the held line, and any other byte is held where there is room
 abbrev pub Feeds : Reading → ℕ → Fed → Reading → Type 0
-Feeds old byte More new = (byte ≢ 10) × (new.held ≡ take 4097 (old.held ++ byte ∷ [])) × (new.line ≡ None)
+Feeds old byte More new =
+    (byte ≢ 10) × (new.held ≡ take (LINE_LIMIT + 1) (old.held ++ byte ∷ [])) × (new.line ≡ None)
 Feeds old byte Line new = (byte ≡ 10) × Ends old Line new
 Feeds old byte Long new = (byte ≡ 10) × Ends old Long new
 

@@ -6,7 +6,7 @@ mod numeral;
 mod split;
 mod word;
 
-pub use lines::{Fed, Lines};
-pub use numeral::{NotNumber, number, put_number};
+pub use lines::{Fed, LINE_LIMIT, Lines};
+pub use numeral::{DIGITS, NotNumber, number, put_number};
 pub use split::{BadByte, is_quiet, words};
 pub use word::Words;

@@ -1,5 +1,5 @@
 //! Lines out of a stream of bytes, fed one byte after another.
-ghost use Rattle.std.specs.Prelude.{◌≡◌, ◌<◌, ◌≤◌, [], length, take, Some, IsSome, IfOk};
+ghost use Rattle.std.specs.Prelude.{◌≡◌, ◌+◌, ◌<◌, ◌≤◌, [], length, take, Some, IsSome, IfOk};
 ghost use Rattle.uhura_text.specs.Lines.{shown};
 ghost use Rattle.uhura_text.specs.Reading.{IsFresh, Ends, Feeds, Finishes};
 
@@ -7,7 +7,7 @@ use std::alloc::{AllocError, Global};
 use std::marker::Model;
 
 /// A line of more bytes is long.
-const LINE_LIMIT: usize = 4096;
+pub const LINE_LIMIT: usize = 4096;
 
 /// What a byte did to the line that is being read.
 #[derive(Clone, Copy, Debug, PartialEq, Eq)]
@@ -29,14 +29,19 @@ pub struct Lines {
 }
 
 impl Model for Lines {
-    ghost use Rattle.std.specs.Prelude.{◌≡◌, ◌≤◌, length, take, option_map, IfSome};
+    ghost use Rattle.std.specs.Prelude.{◌≡◌, ◌+◌, ◌≤◌, length, take, option_map, IfSome};
+    ghost use Rattle.uhura_text.specs.declared.lines.TheConstants.{LINE_LIMIT};
     ghost use Rattle.uhura_text.specs.Reading.{Reading};
 
     ghost Value = { Reading };
 
-    ghost view = { λ r. record { held = take r.used r.buffer.items; line = option_map (λ n. take n r.buffer.items) r.ended } };
+    ghost view = { λ r. record {
+      held = take r.used r.buffer.items;
+      line = option_map (λ n. take n r.buffer.items) r.ended;
+    } };
 
-    ghost invariant = { λ r. (length r.buffer.items ≡ 4097) × (r.used ≤ 4097) × IfSome r.ended (λ n. n ≤ 4097) };
+    ghost invariant = { λ r. (length r.buffer.items ≡ LINE_LIMIT + 1) × (r.used ≤ LINE_LIMIT + 1)
+        × IfSome r.ended (λ n. n ≤ LINE_LIMIT + 1) };
 }
 
 impl Lines {
@@ -107,7 +112,7 @@ impl Lines {
 
 /// How many of a held line's bytes are shown.
 fn shown_length(line: &[u8]) -> usize
-    requires { length line.now ≤ 4097 }
+    requires { length line.now ≤ LINE_LIMIT + 1 }
     ensures bound { result ≤ length line.now }
     ensures shown { take result line.now ≡ shown line.now }
 {

@@ -8,6 +8,9 @@ ghost use Rattle.uhura_text.specs.Number.{is_magnitude, number_of, spelling};
 use itoa::Buffer;
 use std::alloc::AllocError;
 
+/// The most digits that a number has.
+pub const DIGITS: usize = 30;
+
 /// A word that is no number.
 #[derive(Clone, Copy, Debug, PartialEq, Eq)]
 pub struct NotNumber;
@@ -15,9 +18,10 @@ pub struct NotNumber;
 /// Reads a number: `0`, or an optional `-`, a digit from 1 to 9 and at most 29 further digits.
 #[tactic(auto, using(crate::proofs::SpellingLemmas::spellings))]
 pub fn number(word: &[u8]) -> Result<i128, NotNumber>
-    ensures value { MatchResult result (λ z. number_of word.now ≡ Some z) (λ _. number_of word.now ≡ None) }
+    ensures value { MatchResult result (λ z. number_of word.now ≡ Some z)
+        (λ _. number_of word.now ≡ None) }
     ensures one_spelling { IfOk result (λ z. word.now ≡ spelling z) }
-    ensures small { IfOk result (λ z. unsigned_abs z < 10 ^ 30) }
+    ensures small { IfOk result (λ z. unsigned_abs z < 10 ^ DIGITS) }
 {
     match read(word) {
         Some(value) => Ok(value),
@@ -25,11 +29,11 @@ pub fn number(word: &[u8]) -> Result<i128, NotNumber>
     }
 }
 
-// The number that a word writes, if it writes one.
+/// The number that a word writes, if it writes one.
 #[tactic(auto, unfolding(crate::specs::Number::number_of))]
 fn read(word: &[u8]) -> Option<i128>
     ensures value { result ≡ number_of word.now }
-    ensures small { IfSome result (λ z. unsigned_abs z < 10 ^ 30) }
+    ensures small { IfSome result (λ z. unsigned_abs z < 10 ^ DIGITS) }
 {
     if word == b"0".as_slice() {
         return Some(0);
@@ -46,7 +50,7 @@ fn read(word: &[u8]) -> Option<i128>
 /// Appends the one spelling of a number, which `number` reads back.
 #[tactic(auto, using(crate::proofs::SpellingLemmas::spellings))]
 pub fn put_number(out: &mut Vec<u8>, value: i128) -> Result<(), AllocError>
-    requires { unsigned_abs value < 10 ^ 30 }
+    requires { unsigned_abs value < 10 ^ DIGITS }
     ensures ok { OnOk result (out.new.items ≡ out.old.items ++ spelling value) }
     ensures read_back { number_of (spelling value) ≡ Some value }
     ensures err { OnErr result (out.new.items ≡ out.old.items) }
@@ -55,26 +59,26 @@ pub fn put_number(out: &mut Vec<u8>, value: i128) -> Result<(), AllocError>
     out.extend_from_slice(buffer.format(value).as_bytes())
 }
 
-// Whether these are digits that write a number above 0.
+/// Whether these are digits that write a number above 0.
 #[tactic(auto, unfolding(crate::specs::Number::is_magnitude))]
 fn is_magnitude(digits: &[u8]) -> bool
     ensures { result ≡ is_magnitude digits.now }
 {
-    digits.len() <= 30 && matches!(digits, [first, ..] if *first > b'0') && are_digits(digits)
+    digits.len() <= DIGITS && matches!(digits, [first, ..] if *first > b'0') && are_digits(digits)
 }
 
-// Whether each byte is a digit.
+/// Whether each byte is a digit.
 fn are_digits(bytes: &[u8]) -> bool
     ensures { result ≡ list_all is_ascii_digit bytes.now }
 {
     bytes.iter().all(|byte| byte.is_ascii_digit())
 }
 
-// The number that the digits write.
+/// The number that the digits write.
 fn value_of(digits: &[u8]) -> u128
     requires { is_magnitude digits.now ≡ true }
     ensures value { result ≡ digits_value 10 digits.now }
-    ensures small { result < 10 ^ 30 }
+    ensures small { result < 10 ^ DIGITS }
 {
     let mut value: u128 = 0;
     for digit in digits {

@@ -16,10 +16,13 @@ pub struct BadByte {
 pub fn words(line: &[u8]) -> Result<Words<'_>, BadByte>
     ensures words { IfOk result (λ w. w ≡ words line.now) }
     ensures good { IfOk result (λ _. first_bad line.now ≡ None) }
-    ensures bad { IfErr result (λ e. option_map (min (2 ^ 32 - 1)) (first_bad line.now) ≡ Some e.at) }
+    ensures bad { IfErr result
+        (λ e. option_map (min (2 ^ 32 - 1)) (first_bad line.now) ≡ Some e.at) }
 {
     match first_bad(line) {
-        Some(place) => Err(BadByte { at: capped(place) }),
+        Some(place) => Err(BadByte {
+            at: cap_place(place),
+        }),
         None => Ok(Words::new(line)),
     }
 }
@@ -35,14 +38,14 @@ pub fn is_quiet(line: &[u8]) -> bool
     }
 }
 
-// The first byte that is no blank.
+/// The first byte that is no blank.
 fn first_nonblank(line: &[u8]) -> Option<u8>
     ensures { result ≡ find (λ b. not (is_blank b)) line.now }
 {
     line.iter().copied().find(|byte| !is_blank(*byte))
 }
 
-// The place of the first byte that may not stand in a line.
+/// The place of the first byte that may not stand in a line.
 #[tactic(auto, unfolding(crate::specs::Words::first_bad))]
 fn first_bad(line: &[u8]) -> Option<usize>
     ensures { result ≡ first_bad line.now }
@@ -51,21 +54,21 @@ fn first_bad(line: &[u8]) -> Option<usize>
         .position(|byte| !(is_blank(*byte) || is_graphic(*byte)))
 }
 
-// The place as a `u32`, or the last one past it.
-fn capped(place: usize) -> u32
+/// The place as a `u32`, or the last one past it.
+fn cap_place(place: usize) -> u32
     ensures { result ≡ min (2 ^ 32 - 1) place }
 {
     u32::try_from(place).unwrap_or(u32::MAX)
 }
 
-// A space or a tab.
+/// A space or a tab.
 pub(crate) fn is_blank(byte: u8) -> bool
     ensures { result ≡ is_blank byte }
 {
     byte == b' ' || byte == b'\t'
 }
 
-// A byte that words are made of.
+/// A byte that words are made of.
 fn is_graphic(byte: u8) -> bool
     ensures { result ≡ is_graphic byte }
 {

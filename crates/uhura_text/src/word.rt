@@ -22,7 +22,7 @@ impl<'a> Model for Words<'a> {
 }
 
 impl<'a> Words<'a> {
-    // All words of the line.
+    /// All words of the line.
     pub(crate) fn new(line: &'a [u8]) -> Words<'a>
         ensures { result ≡ words line.now }
     {
@@ -44,21 +44,21 @@ impl<'a> Words<'a> {
     }
 }
 
-// Where the next word begins: the place of the first byte that is no blank.
+/// Where the next word begins: the place of the first byte that is no blank.
 fn word_start(line: &[u8]) -> Option<usize>
     ensures { result ≡ position (λ b. not (is_blank b)) line.now }
 {
     line.iter().position(|byte| !is_blank(*byte))
 }
 
-// The place of the first blank.
+/// The place of the first blank.
 fn first_blank(line: &[u8]) -> Option<usize>
     ensures { result ≡ position is_blank line.now }
 {
     line.iter().position(|byte| is_blank(*byte))
 }
 
-// How long the word is that a line begins with.
+/// How long the word is that a line begins with.
 #[tactic(auto, using(crate::proofs::PlaceLemmas::places))]
 fn word_len(line: &[u8]) -> usize
     ensures place { result ≡ position_or_len is_blank line.now }

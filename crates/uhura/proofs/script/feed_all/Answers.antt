@@ -1,5 +1,5 @@
 use Rattle.std.proofs.Common.{arith}
-use Rattle.uhura.proofs.Standing.{bytes-nil, piece-more, piece-stopped}
+use Rattle.uhura.proofs.Standing.{piece-more, piece-stopped}
 use Rattle.uhura.proofs.script.feed_all.Goals as goal
 
 pub returns-in-Err-clause-bytes : goal.returns-in-Err-clause-bytes

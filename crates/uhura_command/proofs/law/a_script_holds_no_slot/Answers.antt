@@ -1,5 +1,0 @@
-use Rattle.uhura_command.proofs.Slotless.{script_slotless}
-use Rattle.uhura_command.proofs.law.a_script_holds_no_slot.Goals as goal
-
-pub returns : goal.returns
-returns c = script_slotless

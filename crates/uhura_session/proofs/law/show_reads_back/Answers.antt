@@ -1,5 +1,0 @@
-use Rattle.uhura_session.proofs.ShowReplays.{shown_reads_back}
-use Rattle.uhura_session.proofs.law.show_reads_back.Goals as goal
-
-pub returns : goal.returns
-returns c = shown_reads_back

@@ -1,0 +1,29 @@
+//! The laws of answers: what `show` answers is a script of the same state, an error is told by its text, and the
+//! slots of requirements change no answer.
+ghost use Rattle.std.specs.Prelude.{◌≡◌};
+ghost use Rattle.uhura_veto.specs.State.{State};
+ghost use Rattle.uhura_worst.specs.Slots.{IsSameButForSlots};
+ghost use Rattle.uhura_command.specs.Replay.{IsSameUpToSlots};
+ghost use Rattle.uhura_command.specs.State.{IsSoundState};
+ghost use Rattle.uhura_session.specs.Answers.{shown_text};
+ghost use Rattle.uhura_session.specs.ReadsBack.{ShowsReadBack};
+ghost use Rattle.uhura_session.specs.Refused.{RefusalsAreErrors};
+
+/// The answer to `show`, read as a script by a new dialogue, makes the same state up to the slots of its
+/// requirements. Each line of it is accepted, or is the comment `# end`.
+pub fn show_reads_back()
+    ensures { ShowsReadBack }
+{}
+
+/// A line is refused exactly where its answer begins as an `error` line.
+pub fn refusals_are_errors()
+    ensures { RefusalsAreErrors }
+{}
+
+/// States that are the same up to slots are shown alike, and are asked alike: their best proposals cost the same and
+/// have one branch, by the law `slots_settle_nothing`. So no answer depends on the history that made the state.
+pub fn slots_change_no_answer()
+    ensures shown { (a b : State) → IsSameUpToSlots a b → shown_text a ≡ shown_text b }
+    ensures asked { (a b : State) → IsSoundState a → IsSoundState b → IsSameUpToSlots a b →
+        IsSameButForSlots a b }
+{}
