@@ -16,3 +16,5 @@ mod loosenings;
 mod nets;
 #[cfg(test)]
 mod prefixes;
+#[cfg(test)]
+mod schedules;
