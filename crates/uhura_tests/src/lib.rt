@@ -15,6 +15,4 @@ mod loosenings;
 #[cfg(test)]
 mod nets;
 #[cfg(test)]
-mod prefixes;
-#[cfg(test)]
 mod schedules;
