@@ -15,4 +15,4 @@ mod loosenings;
 #[cfg(test)]
 mod nets;
 #[cfg(test)]
-mod schedules;
+mod prefixes;
