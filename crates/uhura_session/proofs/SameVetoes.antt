@@ -23,10 +23,13 @@ use Rattle.uhura_veto.specs.declared.veto.Veto.{Veto}
 use Rattle.uhura_veto.specs.declared.veto.Veto.TheVariants.{Deny, Cap}
 use Rattle.uhura_veto.specs.Denial.{denies, is_denied}
 use Rattle.uhura_veto.specs.Room.{caps_on}
-use Rattle.uhura_veto.specs.Vetoes.{IsVetoOf, IsItemOf}
+use Rattle.uhura_veto.specs.State.{State}
+use Rattle.uhura_veto.specs.Vetoes.{IsVetoOf, IsItemOf, AreVetoesOf}
 use Rattle.uhura_worst.proofs.FirstItems.{requirement_in-member}
-use Rattle.uhura_worst.proofs.SoundItems.{Contains-found}
+use Rattle.uhura_worst.specs.Slots.{IsSameButForSlots}
+use Rattle.uhura_worst.proofs.SoundItems.{Contains-found, Contains-at}
 use Rattle.uhura_command.specs.Script.{name_at, guard_names, item_name, veto_command}
+use Rattle.uhura_command.specs.Replay.{IsSameUpToSlots, in_slot}
 use Rattle.uhura_command.proofs.Naming.{found_at, name_there}
 use Rattle.uhura_command.proofs.Spelling.{Begins, spells}
 use Rattle.uhura_session.proofs.Places.{slot-found}
@@ -195,3 +198,24 @@ module _ (a b : Lists) (sound_a : IsSound a) (sound_b : IsSound b) (same_uncerta
       together (item.Uncertain e) (item.Uncertain f) same = refl
       together (item.Requirement one) (item.Uncertain f) same = absurd same
       together (item.Uncertain e) (item.Requirement other) same = absurd same
+
+-- states that are the same up to slots are asked alike
+pub asked_alike : (a b : State) → IsSound a.plan → IsSound b.plan → AreVetoesOf a.plan a.vetoes → AreVetoesOf b.plan b.vetoes → IsSameUpToSlots a b → IsSameButForSlots a b
+asked_alike a b sound_a sound_b of_a of_b same =
+    let alike = all_alike a.plan b.plan sound_a sound_b same.uncertains same.choices a.vetoes b.vetoes of_a.there of_b.there same.vetoes in
+    record {
+      events = same.events;
+      uncertains = same.uncertains;
+      choices = same.choices;
+      requirements = same.requirements;
+      denied = λ picks. denied_alike a.plan b.plan sound_a sound_b same.uncertains same.choices picks a.vetoes b.vetoes alike;
+      loosening = λ side place r s at_a at_b.
+          let slotless : Some (in_slot 0 r) ≡ Some (in_slot 0 s) =
+          ap (option_map (in_slot 0)) (sym at_a) ∙ sym (slice_get-map (in_slot 0) a.plan.requirements place)
+          ∙ ap (λ (rs : List Requirement). slice_get rs place) same.requirements
+          ∙ slice_get-map (in_slot 0) b.plan.requirements place ∙ ap (option_map (in_slot 0)) at_b in
+          let named : r.name ≡ s.name = ap (λ q. q.name) (same_Some (in_slot 0 r) (in_slot 0 s) slotless) in
+          loosening_alike a.plan b.plan sound_a sound_b same.uncertains same.choices side r s (Contains-at a.plan.requirements place r at_a) (Contains-at b.plan.requirements place s at_b) named
+          a.vetoes b.vetoes alike;
+      narrowing = λ side d. narrowing_alike a.plan b.plan sound_a sound_b same.uncertains same.choices side d a.vetoes b.vetoes alike;
+    }
