@@ -10,7 +10,9 @@ ghost use Rattle.uhura_command.specs.Script.{veto_command, command_line, script}
 use super::State;
 use std::alloc::{AllocError, Global};
 use uhura_line::{Command, ItemName, Literals, write_command};
-use uhura_plan::{Alternatives, Choice, EventRef, Item, Literal, Name, Plan, Requirement, Uncertain};
+use uhura_plan::{
+    Alternatives, Choice, EventRef, Item, Literal, Name, Plan, Requirement, Uncertain,
+};
 use uhura_veto::{Veto, Vetoes};
 
 impl State {
