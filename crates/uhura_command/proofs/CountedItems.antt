@@ -1,6 +1,6 @@
 -- A requirement in a slot stands at a place, which is its slot where slots are counted. Its name is the same there, and
 -- finds it there.
-use Rattle.std.proofs.Common.{◌≡◌, ℕ, zero, suc, ◌+◌, ◌<◌, Bool, true, false, List, [], ◌∷◌, length, Option, None, Some, IsSome, option_map, option_and_then, slice_get, refl, sym, ap, subst, ◌∙◌, arith, zero-add}
+use Rattle.std.proofs.Common.{◌≡◌, ℕ, zero, suc, ◌+◌, ◌<◌, Bool, true, false, List, [], ◌∷◌, length, Option, Some, IsSome, option_map, option_and_then, slice_get, refl, sym, ap, subst, ◌∙◌, arith, zero-add}
 use Rattle.std.specs.Prelude.{if◌then◌else◌, nat_eq, find}
 use Rattle.std.specs.Option.{option_map_or}
 use Rattle.std.proofs.lemmas.Bool.Decides.{Decides-eqb, nat_tests}
@@ -12,7 +12,7 @@ use Rattle.uhura_plan.specs.declared.requirement.Requirement.{Requirement}
 use Rattle.uhura_plan.specs.Lists.{Lists, requirement_names, uncertain_names}
 use Rattle.uhura_plan.specs.Find.{requirement_in, requirement_named}
 use Rattle.uhura_plan.specs.Sound.{AreDistinct, HasDistinctNames}
-use Rattle.uhura_veto.specs.declared.item.ItemKind.TheVariants.{Require, Uncertain}
+use Rattle.uhura_veto.specs.declared.item.ItemKind.TheVariants.{Require}
 use Rattle.uhura_veto.specs.Find.{item_named}
 use Rattle.uhura_veto.specs.Vetoes.{IsItemOf}
 use Rattle.uhura_line.specs.declared.command.ItemName.TheVariants as named

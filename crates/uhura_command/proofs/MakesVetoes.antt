@@ -1,13 +1,12 @@
 -- The commands of a state's vetoes make its vetoes, in the plan whose slots are counted.
-use Rattle.std.proofs.Common.{◌≡◌, ℕ, suc, ◌<◌, ◌≤◌, List, [], ◌∷◌, length, take, map, None, Some, slice_get, option_map, is_some, is_none, All, refl, sym, ap, subst, ◌∙◌, arith}
+use Rattle.std.proofs.Common.{◌≡◌, ℕ, suc, ◌<◌, List, [], ◌∷◌, length, take, map, None, Some, slice_get, option_map, is_some, is_none, All, refl, sym, ap, subst, ◌∙◌, arith}
 use Rattle.std.proofs.lemmas.Bool.{lt-leb}
 use Rattle.std.proofs.lemmas.List.{length-map, take_all}
 use Rattle.std.proofs.lemmas.List.Elements.{All-head, All-tail}
 use Rattle.std.proofs.lemmas.Option.{slice_get_within, slice_get-map, get_or_from_slice_get}
 use Rattle.uhura_plan.specs.declared.guard.Literal.{Literal}
 use Rattle.uhura_plan.specs.declared.key.SideKey.{SideKey}
-use Rattle.uhura_plan.specs.declared.choice.Choice.{Choice}
-use Rattle.uhura_plan.specs.Lists.{Lists, alternative_names}
+use Rattle.uhura_plan.specs.Lists.{Lists}
 use Rattle.uhura_plan.specs.Sound.{AreDistinct, IsSound}
 use Rattle.uhura_plan.proofs.Named.{map_kept}
 use Rattle.uhura_veto.specs.declared.limits.TheConstants.{VETOES}

@@ -1,5 +1,5 @@
 -- The commands that make the vetoes of a sound state are commands that fit on a line.
-use Rattle.std.proofs.Common.{◌≡◌, ◌≢◌, ℕ, ◌<◌, ◌≤◌, true, List, [], ◌∷◌, length, map, All, get_or, refl, sym, ap, subst, ◌∙◌, arith}
+use Rattle.std.proofs.Common.{◌≢◌, ◌≤◌, List, [], ◌∷◌, length, map, All, get_or, refl, sym, ap, subst, arith}
 use Rattle.std.specs.Option.{option_map_or}
 use Rattle.std.proofs.lemmas.List.{length-map}
 use Rattle.std.proofs.lemmas.List.Elements.{All-map, All-weaker}
@@ -7,17 +7,12 @@ use Rattle.std.proofs.lemmas.Option.{slice_get_within, get_or_from_slice_get}
 use Rattle.uhura_plan.specs.declared.guard.Literal.{Literal}
 use Rattle.uhura_plan.specs.declared.key.Item.{Item}
 use Rattle.uhura_plan.specs.declared.key.Item.TheVariants.{Requirement as InSlot, Uncertain as AtPlace}
-use Rattle.uhura_plan.specs.declared.key.SideKey.{SideKey}
-use Rattle.uhura_plan.specs.declared.uncertain.Uncertain.{Uncertain}
-use Rattle.uhura_plan.specs.declared.requirement.Requirement.{Requirement}
-use Rattle.uhura_plan.specs.Limits.{IsAmount}
 use Rattle.uhura_plan.specs.Lists.{Lists, uncertain_names}
 use Rattle.uhura_plan.specs.Sound.{IsName, IsSound, IsSoundUncertain, IsSoundRequirement}
 use Rattle.uhura_plan.proofs.Building.{few_literals}
 use Rattle.uhura_veto.specs.declared.veto.Veto.{Veto}
 use Rattle.uhura_veto.specs.declared.veto.Veto.TheVariants.{Deny, Cap}
-use Rattle.uhura_veto.specs.Vetoes.{IsItemOf, IsDenialOf, IsVetoOf, HasName, IsSoundVeto, AreVetoesOf}
-use Rattle.uhura_line.specs.declared.command.Command.TheVariants as command
+use Rattle.uhura_veto.specs.Vetoes.{IsItemOf, IsVetoOf, HasName, IsSoundVeto, AreVetoesOf}
 use Rattle.uhura_line.specs.Reads.{IsCommand, name_of}
 use Rattle.uhura_line.proofs.LineLengths.{length-pair_words}
 use Rattle.uhura_line.proofs.PlanNumbers.{amount_passes}

@@ -1,5 +1,5 @@
 -- A state: a plan with vetoes.
-use Rattle.std.specs.Prelude.{◌≡◌, []}
+use Rattle.std.specs.Prelude.{[]}
 use Rattle.uhura_plan.specs.Lists.{empty}
 use Rattle.uhura_plan.specs.Sound.{IsSound}
 use Rattle.uhura_veto.specs.State.{State}

@@ -3,6 +3,7 @@ ghost use Rattle.std.specs.Prelude.{◌≡◌, ◌++◌, ◌<◌, length, map, f
 ghost use Rattle.uhura_plan.specs.Sound.{IsEventAmong, IsLiteralAmong, IsSoundRequirement};
 ghost use Rattle.uhura_veto.specs.Vetoes.{AreVetoesOf, IsItemOf, IsVetoOf};
 ghost use Rattle.uhura_line.specs.declared.command.Command.TheVariants as command;
+ghost use Rattle.uhura_command.specs.State.{IsSoundState};
 ghost use Rattle.uhura_command.specs.Script.{name_at, event_name, literal_names, guard_names, item_name};
 ghost use Rattle.uhura_command.specs.Script.{uncertain_command, choice_command, requirement_command};
 ghost use Rattle.uhura_command.specs.Script.{veto_command, command_line, script};
@@ -10,7 +11,9 @@ ghost use Rattle.uhura_command.specs.Script.{veto_command, command_line, script}
 use super::State;
 use std::alloc::{AllocError, Global};
 use uhura_line::{Command, ItemName, Literals, write_command};
-use uhura_plan::{Alternatives, Choice, EventRef, Item, Literal, Name, Plan, Requirement, Uncertain};
+use uhura_plan::{
+    Alternatives, Choice, EventRef, Item, Literal, Name, Plan, Requirement, Uncertain,
+};
 use uhura_veto::{Veto, Vetoes};
 
 impl State {
@@ -18,9 +21,12 @@ impl State {
     /// each requirement and each veto, each list in its order. Read as a script by a new dialogue it
     /// makes the same state up to the slots of requirements.
     pub fn script(&self, out: &mut Vec<u8>) -> Result<(), AllocError>
+        ensures sound { IsSoundState self.now }
         ensures ok { OnOk result (out.new.items ≡ out.old.items ++ script self.now) }
         ensures err { OnErr result (out.new.items ≡ out.old.items) }
     {
+        // By its type the plan is sound, as the vetoes are.
+        let _ = self.plan.events();
         let text = script_text(out.allocator().clone()?, &self.plan, &self.vetoes)?;
         out.extend_from_slice(text.as_slice())
     }
