@@ -1,8 +1,8 @@
 //! The plan: events, uncertain durations, choices and requirements, by name and in order.
 //!
 //! It has no tests of its own: its contracts say each answer but want of memory. The calls that take memory,
-//! `Plan::new`, `Plan::copy` and the edits that add, are made by the tests of `uhura_command` and by the cases of the
-//! whole program in tests/cases, which compare what was made.
+//! `Plan::new` and the edits that add, are made by the cases of the whole program in tests/cases, which compare what
+//! was made.
 #![tactic(auto)]
 
 mod choice;
@@ -24,7 +24,7 @@ pub use limits::{
     UNCERTAINS, UNIT_PRICE,
 };
 pub use name::{Name, NotName};
-pub use plan::Plan;
+pub use plan::{Plan, repeated_in};
 pub use price::{Price, Rate, Second};
 pub use refusal::EditRefusal;
 pub use requirement::{Bounded, Requirement};

@@ -10,6 +10,8 @@ mod made;
 mod refuse;
 mod slot;
 
+pub use refuse::repeated_in;
+
 use crate::{Choice, Name, Requirement, Uncertain};
 use indexmap::{IndexMap, IndexSet};
 use std::alloc::{AllocError, Global};

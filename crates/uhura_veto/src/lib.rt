@@ -6,7 +6,6 @@ mod cap;
 mod denial;
 mod item;
 mod limits;
-mod literals;
 mod room;
 pub mod rooms;
 mod veto;

@@ -53,8 +53,9 @@ impl Plan {
         self.events.get_index_of(&name).unwrap() as u32
     }
 
-    /// The guard of literals that are there, no two of them on one choice.
-    pub(super) fn guard_of(&self, names: &[(Name, Name)]) -> Guard
+    /// The guard of literals that are there, no two of them on one choice, each spelled by the name of its choice and
+    /// the name of its alternative.
+    pub fn guard_of(&self, names: &[(Name, Name)]) -> Guard
         requires known { All (λ literal. IsSome (literal_named self.now literal)) names.now }
         requires once { repeated_in names.now ≡ None }
         ensures found { AreLiteralsOf self.now names.now result }

@@ -46,8 +46,9 @@ impl Plan {
         reached(REQUIREMENTS, self.requirements())
     }
 
-    /// The refusal of a guard for a name that isn't there; so many names of the call stand before it.
-    fn unknown_in(&self, before: u32, guard: &[(Name, Name)]) -> Option<EditRefusal>
+    /// The refusal of literals for a name that isn't there, each spelled by the name of its choice and the name of its
+    /// alternative; so many names of the call stand before them.
+    pub fn unknown_in(&self, before: u32, guard: &[(Name, Name)]) -> Option<EditRefusal>
         ensures { result ≡ unknown_in self.now before guard.now }
     {
         let mut which = before;
@@ -87,7 +88,7 @@ pub(super) fn empty_between(lower: Option<i64>, upper: Option<i64>) -> Option<Ed
 }
 
 /// The refusal of the first literal that names a choice already named.
-fn repeated_in(guard: &[(Name, Name)]) -> Option<EditRefusal>
+pub fn repeated_in(guard: &[(Name, Name)]) -> Option<EditRefusal>
     ensures { result ≡ repeated_in guard.now }
 {
     match repeated_at(guard) {

@@ -8,7 +8,6 @@ ghost use Rattle.uhura_veto.specs.Refusals.{deny_refusal, cap_refusal, withdraw_
 ghost use Rattle.uhura_veto.specs.Vetoes.{AreVetoesOf};
 
 use super::Vetoes;
-use crate::literals::guard_of;
 use crate::{ItemKind, Veto};
 use uhura_plan::{EditRefusal, Name, Plan, Side, SideKey};
 
@@ -35,7 +34,7 @@ impl Vetoes {
         }
         let made = Veto::Deny {
             name,
-            literals: guard_of(plan, literals),
+            literals: plan.guard_of(literals),
         };
         // By its type the name is one, as the vetoes keep.
         let _ = name.bytes();

@@ -3,9 +3,8 @@ ghost use Rattle.std.specs.Prelude.{◌≡◌};
 ghost use Rattle.uhura_veto.specs.Refusals.{taken, full_of_vetoes, deny_refusal, cap_refusal};
 
 use super::Vetoes;
-use crate::literals::{repeated_in, unknown_in};
 use crate::{ItemKind, VETOES};
-use uhura_plan::{EditRefusal, Name, Plan};
+use uhura_plan::{EditRefusal, Name, Plan, repeated_in};
 
 impl Vetoes {
     /// The first refusal of a denial, where there is one.
@@ -20,7 +19,7 @@ impl Vetoes {
         if let Some(refusal) = self.taken(name) {
             return Some(refusal);
         }
-        if let Some(refusal) = unknown_in(plan, 1, literals) {
+        if let Some(refusal) = plan.unknown_in(1, literals) {
             return Some(refusal);
         }
         if let Some(refusal) = repeated_in(literals) {
