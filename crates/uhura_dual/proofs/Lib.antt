@@ -1,0 +1,3 @@
+mod Beginnings
+mod KeysAt
+mod PlaceSums

@@ -1,7 +1,6 @@
 -- The edges of a state whose items are active where some first picks of a branch are made: they are settled, since they
 -- are active in each branch that begins so.
-use Rattle.std.specs.Prelude.{◌≡◌, ℕ, zero, suc, ◌-◌, ◌*◌, ◌/◌, ◌%◌, ◌≤◌, nat_lt, ℤ, pos, ◌+ℤ◌, IsTrue, IsFalse, if◌then◌else◌, List, Option, None, Some}
-use Rattle.uhura_plan.specs.declared.limits.TheConstants.{REQUIREMENTS}
+use Rattle.std.specs.Prelude.{◌≡◌, ℕ, zero, suc, ◌-◌, ◌/◌, ◌%◌, ◌≤◌, nat_lt, ℤ, pos, ◌+ℤ◌, IsTrue, IsFalse, if◌then◌else◌, List, Option, None, Some}
 use Rattle.uhura_plan.specs.declared.key.Side.{Side}
 use Rattle.uhura_plan.specs.declared.key.Side.TheVariants.{Lower, Upper}
 use Rattle.uhura_plan.specs.declared.key.Item.{Item}
@@ -12,8 +11,8 @@ use Rattle.uhura_plan.specs.Lists.{Lists}
 use Rattle.uhura_choice.specs.declared.prefix.Pick.{Pick}
 use Rattle.uhura_choice.specs.Branch.{picked_cost}
 use Rattle.uhura_net.specs.declared.edge.Edge.{Edge}
-use Rattle.uhura_net.specs.declared.place.TheConstants.{PLACES, FIRST_OF_DURATIONS, FIRST_STEEP}
-use Rattle.uhura_net.specs.Place.{place_number, HasPlace, StandsAt, is_loose_key}
+use Rattle.uhura_net.specs.declared.place.TheConstants.{PLACES}
+use Rattle.uhura_net.specs.Place.{first_place, first_steep_place, place_number, HasPlace, StandsAt, is_loose_key}
 use Rattle.uhura_net.specs.Edges.{Edges}
 use Rattle.uhura_net.specs.Circulation.{Units, value_of}
 use Rattle.uhura_veto.specs.State.{State}
@@ -62,18 +61,32 @@ abbrev pub key_in_pair : Item → ℕ → EdgeKey
 key_in_pair item zero = Steep (record { item = item; side = Lower })
 key_in_pair item (suc row) = Steep (record { item = item; side = Upper })
 
+-- where the tables of durations begin, and behind all tables the pairs, and those of durations
+abbrev pub durations_from : ℕ
+durations_from = first_place (Uncertain 0)
+
+abbrev pub pairs_from : ℕ
+pairs_from = first_steep_place (Requirement 0)
+
+abbrev pub duration_pairs_from : ℕ
+duration_pairs_from = first_steep_place (Uncertain 0)
+
+-- the edge in so many places from there on
+abbrev pub key_in_tables : ℕ → EdgeKey
+key_in_tables number = key_in_row (Uncertain (number / 5)) (Order (number / 5)) (number % 5)
+
+abbrev pub key_in_pairs : (ℕ → Item) → ℕ → EdgeKey
+key_in_pairs item number = key_in_pair (item (number / 2)) (number % 2)
+
 -- the edge that stands at a place
 abbrev pub key_at : ℕ → EdgeKey
 key_at place =
-    if nat_lt place FIRST_OF_DURATIONS
+    if nat_lt place durations_from
     then key_in_row (Requirement (place / 4)) (Order 0) (place % 4)
-    else let table = place - FIRST_OF_DURATIONS in
-    if nat_lt place FIRST_STEEP
-    then key_in_row (Uncertain (table / 5)) (Order (table / 5)) (table % 5)
-    else let pair = place - FIRST_STEEP in
-    if nat_lt pair (2 * REQUIREMENTS)
-    then key_in_pair (Requirement (pair / 2)) (pair % 2)
-    else key_in_pair (Uncertain ((pair - 2 * REQUIREMENTS) / 2)) (pair % 2)
+    else if nat_lt place pairs_from then key_in_tables (place - durations_from)
+    else if nat_lt place duration_pairs_from
+    then key_in_pairs (λ slot. Requirement slot) (place - pairs_from)
+    else key_in_pairs (λ d. Uncertain d) (place - duration_pairs_from)
 
 -- the settled edges, each at its place
 abbrev pub settled_edges : State → List Pick → Edges

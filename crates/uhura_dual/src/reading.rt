@@ -2,6 +2,7 @@
 ghost use Rattle.std.specs.Prelude.{◌≡◌, ℕ, IfOk};
 ghost use Rattle.uhura_plan.specs.declared.key.SideKey.{SideKey};
 ghost use Rattle.uhura_net.specs.Edges.{time_at};
+ghost use Rattle.uhura_veto.specs.State.{State};
 ghost use Rattle.uhura_worst.specs.Units.{side_units};
 ghost use Rattle.uhura_dual.specs.ReadOff.{ArePotentials, passed_sides, passed_side, IsAllowedWhereKept, CostsItsExcess};
 
@@ -26,11 +27,12 @@ pub fn loosening(
         (λ pairs. pairs ≡ passed_sides plan.now branch.now potentials.now) }
     ensures units { IfOk result (λ pairs. (key : SideKey) →
         side_units pairs key ≡ passed_side plan.now branch.now (time_at potentials.now) key) }
-    ensures allowed { let state = record { plan = plan.now; vetoes = vetoes.now } in IfOk result
+    ensures allowed { let state : State = record { plan = plan.now; vetoes = vetoes.now } in
+        IfOk result
         (λ pairs. IsAllowedWhereKept state branch.now pairs potentials.now) }
-    ensures cost { let state = record { plan = plan.now; vetoes = vetoes.now } in IfOk result
+    ensures cost { let state : State = record { plan = plan.now; vetoes = vetoes.now } in
+        IfOk result
         (λ pairs. CostsItsExcess state branch.now pairs potentials.now) }
 {
-    let _ = (plan, vetoes, branch, potentials);
     Ok(Loosening::new(alloc))
 }

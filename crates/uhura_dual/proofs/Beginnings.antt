@@ -1,0 +1,2 @@
+-- What holds with some first picks holds with more.
+use Rattle.std.proofs.Common.{◌≡◌}
