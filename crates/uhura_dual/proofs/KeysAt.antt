@@ -1,18 +1,18 @@
 -- The edge at a place is the one whose place it is.
-use Rattle.std.proofs.Common.{◌≡◌, ℕ, zero, suc, ◌+◌, ◌-◌, ◌*◌, ◌/◌, ◌%◌, ◌<◌, ◌≤◌, Bool, true, false, List, Option, None, Some, refl, ap, sym, ◌∙◌, arith}
-use Rattle.std.specs.Prelude.{nat_lt, if◌then◌else◌}
+use Rattle.std.proofs.Common.{rules, ◌≡◌, ℕ, ◌+◌, ◌-◌, ◌*◌, ◌/◌, ◌%◌, ◌<◌, List, refl, ap, arith}
+use Rattle.uhura_choice.specs.declared.prefix.Pick.{Pick}
 use Rattle.std.proofs.lemmas.Bool.{lt-ltb, le-ltb}
 use Rattle.uhura_plan.specs.declared.limits.TheConstants.{REQUIREMENTS, UNCERTAINS}
 use Rattle.uhura_plan.specs.declared.key.Side.{Side}
 use Rattle.uhura_plan.specs.declared.key.Side.TheVariants.{Lower, Upper}
 use Rattle.uhura_plan.specs.declared.key.Item.{Item}
 use Rattle.uhura_plan.specs.declared.key.Item.TheVariants.{Requirement, Uncertain}
-use Rattle.uhura_plan.specs.declared.key.SideKey.{SideKey}
+use Rattle.uhura_veto.specs.State.{State}
 use Rattle.uhura_plan.specs.declared.key.EdgeKey.{EdgeKey}
 use Rattle.uhura_plan.specs.declared.key.EdgeKey.TheVariants.{Loose, Firm, Order, Steep}
 use Rattle.uhura_net.specs.declared.place.TheConstants.{PLACES}
 use Rattle.uhura_net.specs.Place.{first_place, first_steep_place, loose_row, firm_row, steep_row, place_number, IsPlacedItem, HasPlace}
-use Rattle.uhura_dual.specs.Settled.{key_in_row, key_in_pair, durations_from, pairs_from, duration_pairs_from, key_in_tables, key_in_pairs, key_at}
+use Rattle.uhura_dual.specs.Settled.{key_in_row, key_in_pair, durations_from, pairs_from, duration_pairs_from, key_at, active_edge, AreAllSettled, settled_edges}
 
 -- the place in the table of a slot
 in_slot : (slot row : ℕ) → slot < REQUIREMENTS → row < 4 → key_at (4 * slot + row) ≡ key_in_row (Requirement slot) (Order 0) row
@@ -57,3 +57,39 @@ in_duration_pair d row placed small =
       item,
       at,
     ) refl
+
+-- so of each edge that has a place
+in_table : (of : Item) (at : Side) → IsPlacedItem of → key_at (first_place of + loose_row at) ≡ Loose (record { item = of; side = at })
+in_table (Requirement slot) Lower placed = in_slot slot 0 placed (omega arith)
+in_table (Requirement slot) Upper placed = in_slot slot 2 placed (omega arith)
+in_table (Uncertain d) Lower placed = in_duration d 0 placed (omega arith)
+in_table (Uncertain d) Upper placed = in_duration d 2 placed (omega arith)
+
+in_table_firm : (of : Item) (at : Side) → IsPlacedItem of → key_at (first_place of + firm_row at) ≡ Firm (record { item = of; side = at })
+in_table_firm (Requirement slot) Lower placed = in_slot slot 1 placed (omega arith)
+in_table_firm (Requirement slot) Upper placed = in_slot slot 3 placed (omega arith)
+in_table_firm (Uncertain d) Lower placed = in_duration d 1 placed (omega arith)
+in_table_firm (Uncertain d) Upper placed = in_duration d 3 placed (omega arith)
+
+in_pair : (of : Item) (at : Side) → IsPlacedItem of → key_at (first_steep_place of + steep_row at) ≡ Steep (record { item = of; side = at })
+in_pair (Requirement slot) Lower placed = in_slot_pair slot 0 placed (omega arith)
+in_pair (Requirement slot) Upper placed = in_slot_pair slot 1 placed (omega arith)
+in_pair (Uncertain d) Lower placed = in_duration_pair d 0 placed (omega arith)
+in_pair (Uncertain d) Upper placed = in_duration_pair d 1 placed (omega arith)
+
+pub key_at-place_number : (key : EdgeKey) → HasPlace key → key_at (place_number key) ≡ key
+key_at-place_number (Loose key) placed = in_table key.item key.side placed
+key_at-place_number (Firm key) placed = in_table_firm key.item key.side placed
+key_at-place_number (Order d) placed = in_duration d 4 placed (omega arith)
+key_at-place_number (Steep key) placed = in_pair key.item key.side placed
+
+-- it stands at one of the places
+place_inside : (key : EdgeKey) → HasPlace key → place_number key < PLACES
+place_inside key placed = search rules
+
+-- so the settled edges stand at their places
+pub settled_edges-are : (state : State) (picks : List Pick) → AreAllSettled state picks (settled_edges state picks)
+settled_edges-are state picks = record {
+  each = λ key placed. rw (lt-ltb (place_number key) PLACES (place_inside key placed)) (ap (active_edge state picks) (key_at-place_number key placed));
+  none = λ place past. rw (le-ltb place PLACES past) refl;
+}

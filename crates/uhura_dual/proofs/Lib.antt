@@ -1,3 +1,4 @@
 mod Beginnings
 mod KeysAt
 mod PlaceSums
+mod Barred
