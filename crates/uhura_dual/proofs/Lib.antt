@@ -2,3 +2,5 @@ mod Beginnings
 mod KeysAt
 mod PlaceSums
 mod Barred
+mod Paid
+mod PlacesCost

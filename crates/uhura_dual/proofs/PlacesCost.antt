@@ -1,0 +1,163 @@
+-- What the loose places are paid for being passed by times is what the sides of the plan cost that are loosened and
+-- narrowed by as much.
+use Rattle.std.proofs.Common.{◌≡◌, ◌≢◌, ℕ, ◌+◌, ◌*◌, ◌<◌, ◌≤◌, Bool, true, false, ℤ, List, [], ◌∷◌, length, Option, None, Some, slice_get, Contains, refl, sym, ap, subst, ◌∙◌, arith}
+use Rattle.std.specs.Prelude.{find, sum_by, if◌then◌else◌, cond, option_and_then, ◌==◌}
+use Rattle.std.specs.Option.{option_map_or}
+use Rattle.std.proofs.lemmas.Bool.Decides.{Decides-eqb}
+use Rattle.uhura_plan.specs.declared.limits.TheConstants.{REQUIREMENTS, UNCERTAINS}
+use Rattle.uhura_plan.specs.declared.key.Side.{Side}
+use Rattle.uhura_plan.specs.declared.key.Side.TheVariants.{Lower, Upper}
+use Rattle.uhura_plan.specs.declared.key.Item.TheVariants as item
+use Rattle.uhura_plan.specs.declared.key.SideKey.{SideKey}
+use Rattle.uhura_plan.specs.declared.key.EdgeKey.{EdgeKey}
+use Rattle.uhura_plan.specs.declared.key.EdgeKey.TheVariants.{Loose, Firm, Order, Steep}
+use Rattle.uhura_plan.specs.declared.requirement.Requirement.{Requirement}
+use Rattle.uhura_plan.specs.declared.uncertain.Uncertain.{Uncertain}
+use Rattle.uhura_plan.specs.Lists.{Lists}
+use Rattle.uhura_plan.specs.Find.{requirement_in}
+use Rattle.uhura_plan.specs.Sides.{loosening_rate, rate_of}
+use Rattle.uhura_plan.specs.Sound.{IsSound}
+use Rattle.uhura_choice.specs.declared.prefix.Pick.{Pick}
+use Rattle.uhura_choice.specs.Branch.{holds}
+use Rattle.uhura_net.specs.declared.edge.Edge.{Edge}
+use Rattle.uhura_net.specs.declared.place.TheConstants.{PLACES}
+use Rattle.uhura_net.specs.Place.{place_number, HasPlace, IsPlacedItem, is_loose, is_loose_key}
+use Rattle.uhura_net.specs.Edges.{Edges}
+use Rattle.uhura_net.specs.Sums.{sum_below}
+use Rattle.uhura_net.proofs.Rows.{is_loose-place_number}
+use Rattle.uhura_net.proofs.Sums.{sum_below-same}
+use Rattle.uhura_veto.specs.State.{State}
+use Rattle.uhura_worst.specs.Proposal.{Proposal, loosened, narrowed}
+use Rattle.uhura_worst.specs.Cost.{price_of, loosening_cost, narrowing_cost, narrowings_cost}
+use Rattle.uhura_worst.specs.Edges.{requirement_constraint, duration_constraint, loose_edge, steep_edge, requirement_edge, duration_edge, edge_of}
+use Rattle.uhura_worst.specs.WorstCase.{passed_by, requirement_passed, passed_in, proposal_at}
+use Rattle.uhura_worst.proofs.SoundItems.{Contains-at, Contains-found, sound_requirement}
+use Rattle.uhura_worst.proofs.FirstItems.{passes}
+use Rattle.uhura_dual.specs.Settled.{active_edge, AreAllSettled}
+use Rattle.uhura_dual.proofs.Paid.{paid, side-paid, side-paid_where_there, price_of-none}
+use Rattle.uhura_dual.proofs.PlaceSums.{side, at_side, at_slot, at_duration, from_place, places-sum, slots-sum, durations-sum}
+
+-- what the edge at a place is paid, where the place is loose
+abbrev pub loose_paid : ℕ → (ℕ → ℤ) → Edges → ℕ → ℕ
+loose_paid k times edges place = if is_loose place then paid k times (edges place) else 0
+
+-- what the units of all sides cost
+abbrev pub units_cost : Lists → ℕ → Proposal → ℕ
+units_cost plan k q = sum_by (λ r. loosening_cost k q Lower r + loosening_cost k q Upper r) plan.requirements + narrowings_cost k q 0 plan.uncertains
+
+-- at the places of a side the loose and the steep edge are paid
+paid_at_side : (state : State) (branch : List Pick) (k : ℕ) (times : ℕ → ℤ) (edges : Edges) (key : SideKey) → AreAllSettled state branch edges → IsPlacedItem key.item →
+    at_side (loose_paid k times edges) key ≡ paid k times (active_edge state branch (Loose key)) + paid k times (active_edge state branch (Steep key))
+paid_at_side state branch k times edges key all placed =
+    let loose : loose_paid k times edges (place_number (Loose key)) ≡ paid k times (active_edge state branch (Loose key)) =
+    ap (λ (b : Bool). if b then paid k times (edges (place_number (Loose key))) else 0) (is_loose-place_number (Loose key) placed) ∙ ap (paid k times) (all.each (Loose key) placed) in
+    let firm : loose_paid k times edges (place_number (Firm key)) ≡ 0 =
+    ap (λ (b : Bool). if b then paid k times (edges (place_number (Firm key))) else 0) (is_loose-place_number (Firm key) placed) in
+    let steep : loose_paid k times edges (place_number (Steep key)) ≡ paid k times (active_edge state branch (Steep key)) =
+    ap (λ (b : Bool). if b then paid k times (edges (place_number (Steep key))) else 0) (is_loose-place_number (Steep key) placed) ∙ ap (paid k times) (all.each (Steep key) placed) in
+    omega (arith, loose, firm, steep)
+
+-- for a side of a requirement that is what it costs, with the units by which the times pass it
+slot_side : (state : State) (branch : List Pick) (k : ℕ) (times : ℕ → ℤ) (at : Side) (slot : ℕ) → 
+    paid k times (active_edge state branch (Loose (side (item.Requirement slot) at))) + paid k times (active_edge state branch (Steep (side (item.Requirement slot) at)))
+    ≡ option_map_or (loosening_cost k (proposal_at state.plan k branch times) at) (requirement_in state.plan slot) 0
+slot_side state branch k times at slot = by (requirement_in state.plan slot) refl
+  where
+    passed : Requirement → ℕ
+    passed r = option_map_or (passed_by k times) (requirement_constraint at r) 0
+
+    active : (r : Requirement) (b : Bool) →
+        paid k times (if b then option_and_then (loose_edge (loosening_rate at r)) (requirement_constraint at r) else None) + paid k times (if b then option_and_then (steep_edge (loosening_rate at r)) (requirement_constraint at r) else None)
+        ≡ price_of k (loosening_rate at r) (if b then option_map_or (passed_by k times) (requirement_constraint at r) 0 else 0)
+    active r true = side-paid_where_there k times (loosening_rate at r) (requirement_constraint at r)
+    active r false = omega (arith, price_of-none k (loosening_rate at r))
+
+    by : (o : Option Requirement) → requirement_in state.plan slot ≡ o →
+        paid k times (if option_map_or (λ (r : Requirement). holds r.guard branch) o false then option_and_then (λ (r : Requirement). requirement_edge state.vetoes r (Loose (side (item.Requirement slot) at))) o else None)
+        + paid k times (if option_map_or (λ (r : Requirement). holds r.guard branch) o false then option_and_then (λ (r : Requirement). requirement_edge state.vetoes r (Steep (side (item.Requirement slot) at))) o else None)
+        ≡ option_map_or (loosening_cost k (proposal_at state.plan k branch times) at) o 0
+    by None found = omega arith
+    by (Some r) found =
+        let own : r.slot ≡ slot = (Decides-eqb r.slot slot).0 (passes (λ (q : Requirement). q.slot == slot) state.plan.requirements r found) in
+        let units : loosened (proposal_at state.plan k branch times) at r ≡ requirement_passed k branch times at r =
+        ap (λ (o : Option Requirement). option_map_or (requirement_passed k branch times at) o 0) (ap (requirement_in state.plan) own ∙ found) in
+        active r (holds r.guard branch) ∙ ap (price_of k (loosening_rate at r)) (sym units)
+
+-- and so for one of a duration
+duration_side : (state : State) (branch : List Pick) (k : ℕ) (times : ℕ → ℤ) (at : Side) (d : ℕ) →
+    paid k times (active_edge state branch (Loose (side (item.Uncertain d) at))) + paid k times (active_edge state branch (Steep (side (item.Uncertain d) at)))
+    ≡ option_map_or (narrowing_cost k (proposal_at state.plan k branch times) d at) (slice_get state.plan.uncertains d) 0
+duration_side state branch k times at d = by (slice_get state.plan.uncertains d) refl
+  where
+    by : (o : Option Uncertain) → slice_get state.plan.uncertains d ≡ o →
+        paid k times (option_and_then (λ (u : Uncertain). duration_edge state.vetoes d u (Loose (side (item.Uncertain d) at))) o)
+        + paid k times (option_and_then (λ (u : Uncertain). duration_edge state.vetoes d u (Steep (side (item.Uncertain d) at))) o)
+        ≡ option_map_or (narrowing_cost k (proposal_at state.plan k branch times) d at) o 0
+    by None found = omega arith
+    by (Some u) found =
+        let units : narrowed (proposal_at state.plan k branch times) at d ≡ passed_by k times (duration_constraint at d u) =
+        ap (λ (o : Option Uncertain). option_map_or (λ (v : Uncertain). passed_by k times (duration_constraint at d v)) o 0) found in
+        side-paid k times (rate_of at u) (duration_constraint at d u) ∙ ap (price_of k (rate_of at u)) (sym units)
+
+-- in the places of a slot, and of a duration
+slot_cost : (state : State) (branch : List Pick) (k : ℕ) (times : ℕ → ℤ) (edges : Edges) (slot : ℕ) → AreAllSettled state branch edges → slot < REQUIREMENTS →
+    at_slot (loose_paid k times edges) slot
+    ≡ option_map_or (λ r. loosening_cost k (proposal_at state.plan k branch times) Lower r + loosening_cost k (proposal_at state.plan k branch times) Upper r) (requirement_in state.plan slot) 0
+slot_cost state branch k times edges slot all inside =
+    omega (
+      arith,
+      paid_at_side state branch k times edges (side (item.Requirement slot) Lower) all inside,
+      paid_at_side state branch k times edges (side (item.Requirement slot) Upper) all inside,
+      slot_side state branch k times Lower slot,
+      slot_side state branch k times Upper slot,
+      by (requirement_in state.plan slot),
+    )
+  where
+    by : (o : Option Requirement) →
+        option_map_or (λ r. loosening_cost k (proposal_at state.plan k branch times) Lower r + loosening_cost k (proposal_at state.plan k branch times) Upper r) o 0
+        ≡ option_map_or (loosening_cost k (proposal_at state.plan k branch times) Lower) o 0 + option_map_or (loosening_cost k (proposal_at state.plan k branch times) Upper) o 0
+    by None = refl
+    by (Some r) = refl
+
+duration_cost : (state : State) (branch : List Pick) (k : ℕ) (times : ℕ → ℤ) (edges : Edges) (d : ℕ) → AreAllSettled state branch edges → d < UNCERTAINS →
+    at_duration (loose_paid k times edges) d
+    ≡ option_map_or (λ u. narrowing_cost k (proposal_at state.plan k branch times) d Lower u + narrowing_cost k (proposal_at state.plan k branch times) d Upper u) (slice_get state.plan.uncertains d) 0
+duration_cost state branch k times edges d all inside =
+    let order : loose_paid k times edges (place_number (Order d)) ≡ 0 =
+    ap (λ (b : Bool). if b then paid k times (edges (place_number (Order d))) else 0) (is_loose-place_number (Order d) inside) in
+    omega (
+      arith,
+      order,
+      paid_at_side state branch k times edges (side (item.Uncertain d) Lower) all inside,
+      paid_at_side state branch k times edges (side (item.Uncertain d) Upper) all inside,
+      duration_side state branch k times Lower d,
+      duration_side state branch k times Upper d,
+      by (slice_get state.plan.uncertains d),
+    )
+  where
+    by : (o : Option Uncertain) →
+        option_map_or (λ u. narrowing_cost k (proposal_at state.plan k branch times) d Lower u + narrowing_cost k (proposal_at state.plan k branch times) d Upper u) o 0
+        ≡ option_map_or (narrowing_cost k (proposal_at state.plan k branch times) d Lower) o 0 + option_map_or (narrowing_cost k (proposal_at state.plan k branch times) d Upper) o 0
+    by None = refl
+    by (Some u) = refl
+
+-- the durations one after the other
+narrowings : (k : ℕ) (q : Proposal) (d : ℕ) (us : List Uncertain) → from_place (λ e u. narrowing_cost k q e Lower u + narrowing_cost k q e Upper u) d us ≡ narrowings_cost k q d us
+narrowings k q d [] = refl
+narrowings k q d (u ∷ us) = omega (arith, narrowings k q (d + 1) us)
+
+-- so over all places
+pub places-cost : (state : State) (branch : List Pick) (k : ℕ) (times : ℕ → ℤ) (edges : Edges) → IsSound state.plan → AreAllSettled state branch edges →
+    sum_below PLACES (loose_paid k times edges) ≡ units_cost state.plan k (proposal_at state.plan k branch times)
+places-cost state branch k times edges sound all =
+    let q : Proposal = proposal_at state.plan k branch times in
+    let of_requirement : Requirement → ℕ = λ r. loosening_cost k q Lower r + loosening_cost k q Upper r in
+    let of_duration : ℕ → Uncertain → ℕ = λ d u. narrowing_cost k q d Lower u + narrowing_cost k q d Upper u in
+    let slots_are = sum_below-same REQUIREMENTS (at_slot (loose_paid k times edges)) (λ slot. option_map_or of_requirement (requirement_in state.plan slot) 0) (λ slot inside. slot_cost state branch k times edges slot all inside) in
+    let durations_are = sum_below-same UNCERTAINS (at_duration (loose_paid k times edges)) (λ d. option_map_or (of_duration d) (slice_get state.plan.uncertains d) 0) (λ d inside. duration_cost state branch k times edges d all inside) in
+    let from_zero = sum_below-same UNCERTAINS (λ d. option_map_or (of_duration d) (slice_get state.plan.uncertains d) 0) (λ d. option_map_or (of_duration (0 + d)) (slice_get state.plan.uncertains d) 0)
+    (λ d _. ap (λ (e : ℕ). option_map_or (of_duration e) (slice_get state.plan.uncertains d) 0) (let e : d ≡ 0 + d = omega arith in e)) in
+    let requirements = slots-sum REQUIREMENTS state.plan.requirements of_requirement sound.distinct.slots
+    (λ i r there. (sound_requirement state.plan r sound (Contains-at state.plan.requirements i r there)).slot) in
+    let durations = durations-sum UNCERTAINS 0 state.plan.uncertains of_duration sound.counts.uncertains in
+    omega (arith, places-sum (loose_paid k times edges), slots_are, durations_are, from_zero, requirements, durations, narrowings k q 0 state.plan.uncertains)
