@@ -4,3 +4,4 @@ mod PlaceSums
 mod Barred
 mod Paid
 mod PlacesCost
+mod Duality

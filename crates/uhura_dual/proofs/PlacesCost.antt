@@ -57,6 +57,17 @@ paid_at_side state branch k times edges key all placed =
     ap (λ (b : Bool). if b then paid k times (edges (place_number (Steep key))) else 0) (is_loose-place_number (Steep key) placed) ∙ ap (paid k times) (all.each (Steep key) placed) in
     omega (arith, loose, firm, steep)
 
+-- by how many units the times loosen and narrow the items of the plan
+pub loosened-found : (plan : Lists) (k : ℕ) (branch : List Pick) (times : ℕ → ℤ) (at : Side) (slot : ℕ) (r : Requirement) → requirement_in plan slot ≡ Some r →
+    loosened (proposal_at plan k branch times) at r ≡ requirement_passed k branch times at r
+loosened-found plan k branch times at slot r found =
+    let own : r.slot ≡ slot = (Decides-eqb r.slot slot).0 (passes (λ (q : Requirement). q.slot == slot) plan.requirements r found) in
+    ap (λ (o : Option Requirement). option_map_or (requirement_passed k branch times at) o 0) (ap (requirement_in plan) own ∙ found)
+
+pub narrowed-found : (plan : Lists) (k : ℕ) (branch : List Pick) (times : ℕ → ℤ) (at : Side) (d : ℕ) (u : Uncertain) → slice_get plan.uncertains d ≡ Some u →
+    narrowed (proposal_at plan k branch times) at d ≡ passed_by k times (duration_constraint at d u)
+narrowed-found plan k branch times at d u found = ap (λ (o : Option Uncertain). option_map_or (λ (v : Uncertain). passed_by k times (duration_constraint at d v)) o 0) found
+
 -- for a side of a requirement that is what it costs, with the units by which the times pass it
 slot_side : (state : State) (branch : List Pick) (k : ℕ) (times : ℕ → ℤ) (at : Side) (slot : ℕ) → 
     paid k times (active_edge state branch (Loose (side (item.Requirement slot) at))) + paid k times (active_edge state branch (Steep (side (item.Requirement slot) at)))
@@ -78,10 +89,7 @@ slot_side state branch k times at slot = by (requirement_in state.plan slot) ref
         ≡ option_map_or (loosening_cost k (proposal_at state.plan k branch times) at) o 0
     by None found = omega arith
     by (Some r) found =
-        let own : r.slot ≡ slot = (Decides-eqb r.slot slot).0 (passes (λ (q : Requirement). q.slot == slot) state.plan.requirements r found) in
-        let units : loosened (proposal_at state.plan k branch times) at r ≡ requirement_passed k branch times at r =
-        ap (λ (o : Option Requirement). option_map_or (requirement_passed k branch times at) o 0) (ap (requirement_in state.plan) own ∙ found) in
-        active r (holds r.guard branch) ∙ ap (price_of k (loosening_rate at r)) (sym units)
+        active r (holds r.guard branch) ∙ ap (price_of k (loosening_rate at r)) (sym (loosened-found state.plan k branch times at slot r found))
 
 -- and so for one of a duration
 duration_side : (state : State) (branch : List Pick) (k : ℕ) (times : ℕ → ℤ) (at : Side) (d : ℕ) →
@@ -95,14 +103,18 @@ duration_side state branch k times at d = by (slice_get state.plan.uncertains d)
         ≡ option_map_or (narrowing_cost k (proposal_at state.plan k branch times) d at) o 0
     by None found = omega arith
     by (Some u) found =
-        let units : narrowed (proposal_at state.plan k branch times) at d ≡ passed_by k times (duration_constraint at d u) =
-        ap (λ (o : Option Uncertain). option_map_or (λ (v : Uncertain). passed_by k times (duration_constraint at d v)) o 0) found in
-        side-paid k times (rate_of at u) (duration_constraint at d u) ∙ ap (price_of k (rate_of at u)) (sym units)
+        side-paid k times (rate_of at u) (duration_constraint at d u) ∙ ap (price_of k (rate_of at u)) (sym (narrowed-found state.plan k branch times at d u found))
+
+-- what the two sides of a requirement cost, and those of a duration
+abbrev pub loosenings : ℕ → Proposal → Requirement → ℕ
+loosenings k q r = loosening_cost k q Lower r + loosening_cost k q Upper r
+
+abbrev pub narrowings : ℕ → Proposal → ℕ → Uncertain → ℕ
+narrowings k q d u = narrowing_cost k q d Lower u + narrowing_cost k q d Upper u
 
 -- in the places of a slot, and of a duration
 slot_cost : (state : State) (branch : List Pick) (k : ℕ) (times : ℕ → ℤ) (edges : Edges) (slot : ℕ) → AreAllSettled state branch edges → slot < REQUIREMENTS →
-    at_slot (loose_paid k times edges) slot
-    ≡ option_map_or (λ r. loosening_cost k (proposal_at state.plan k branch times) Lower r + loosening_cost k (proposal_at state.plan k branch times) Upper r) (requirement_in state.plan slot) 0
+    at_slot (loose_paid k times edges) slot ≡ option_map_or (loosenings k (proposal_at state.plan k branch times)) (requirement_in state.plan slot) 0
 slot_cost state branch k times edges slot all inside =
     omega (
       arith,
@@ -114,14 +126,13 @@ slot_cost state branch k times edges slot all inside =
     )
   where
     by : (o : Option Requirement) →
-        option_map_or (λ r. loosening_cost k (proposal_at state.plan k branch times) Lower r + loosening_cost k (proposal_at state.plan k branch times) Upper r) o 0
+        option_map_or (loosenings k (proposal_at state.plan k branch times)) o 0
         ≡ option_map_or (loosening_cost k (proposal_at state.plan k branch times) Lower) o 0 + option_map_or (loosening_cost k (proposal_at state.plan k branch times) Upper) o 0
     by None = refl
     by (Some r) = refl
 
 duration_cost : (state : State) (branch : List Pick) (k : ℕ) (times : ℕ → ℤ) (edges : Edges) (d : ℕ) → AreAllSettled state branch edges → d < UNCERTAINS →
-    at_duration (loose_paid k times edges) d
-    ≡ option_map_or (λ u. narrowing_cost k (proposal_at state.plan k branch times) d Lower u + narrowing_cost k (proposal_at state.plan k branch times) d Upper u) (slice_get state.plan.uncertains d) 0
+    at_duration (loose_paid k times edges) d ≡ option_map_or (narrowings k (proposal_at state.plan k branch times) d) (slice_get state.plan.uncertains d) 0
 duration_cost state branch k times edges d all inside =
     let order : loose_paid k times edges (place_number (Order d)) ≡ 0 =
     ap (λ (b : Bool). if b then paid k times (edges (place_number (Order d))) else 0) (is_loose-place_number (Order d) inside) in
@@ -136,28 +147,35 @@ duration_cost state branch k times edges d all inside =
     )
   where
     by : (o : Option Uncertain) →
-        option_map_or (λ u. narrowing_cost k (proposal_at state.plan k branch times) d Lower u + narrowing_cost k (proposal_at state.plan k branch times) d Upper u) o 0
+        option_map_or (narrowings k (proposal_at state.plan k branch times) d) o 0
         ≡ option_map_or (narrowing_cost k (proposal_at state.plan k branch times) d Lower) o 0 + option_map_or (narrowing_cost k (proposal_at state.plan k branch times) d Upper) o 0
     by None = refl
     by (Some u) = refl
 
 -- the durations one after the other
-narrowings : (k : ℕ) (q : Proposal) (d : ℕ) (us : List Uncertain) → from_place (λ e u. narrowing_cost k q e Lower u + narrowing_cost k q e Upper u) d us ≡ narrowings_cost k q d us
-narrowings k q d [] = refl
-narrowings k q d (u ∷ us) = omega (arith, narrowings k q (d + 1) us)
+in_order : (k : ℕ) (q : Proposal) (d : ℕ) (us : List Uncertain) → from_place (narrowings k q) d us ≡ narrowings_cost k q d us
+in_order k q d [] = refl
+in_order k q d (u ∷ us) = omega (arith, in_order k q (d + 1) us)
+
+-- the cost of all units, slot by slot and place by place
+abbrev pub cost_by_items : Lists → ℕ → Proposal → ℕ
+cost_by_items plan k q =
+    sum_below REQUIREMENTS (λ slot. option_map_or (loosenings k q) (requirement_in plan slot) 0) + sum_below UNCERTAINS (λ d. option_map_or (narrowings k q d) (slice_get plan.uncertains d) 0)
+
+pub units_cost-by_items : (plan : Lists) (k : ℕ) (q : Proposal) → IsSound plan → cost_by_items plan k q ≡ units_cost plan k q
+units_cost-by_items plan k q sound =
+    let from_zero = sum_below-same UNCERTAINS (λ d. option_map_or (narrowings k q d) (slice_get plan.uncertains d) 0) (λ d. option_map_or (narrowings k q (0 + d)) (slice_get plan.uncertains d) 0)
+    (λ d _. ap (λ (e : ℕ). option_map_or (narrowings k q e) (slice_get plan.uncertains d) 0) (let e : d ≡ 0 + d = omega arith in e)) in
+    let requirements = slots-sum REQUIREMENTS plan.requirements (loosenings k q) sound.distinct.slots
+    (λ i r there. (sound_requirement plan r sound (Contains-at plan.requirements i r there)).slot) in
+    let durations = durations-sum UNCERTAINS 0 plan.uncertains (narrowings k q) sound.counts.uncertains in
+    omega (arith, from_zero, requirements, durations, in_order k q 0 plan.uncertains)
 
 -- so over all places
 pub places-cost : (state : State) (branch : List Pick) (k : ℕ) (times : ℕ → ℤ) (edges : Edges) → IsSound state.plan → AreAllSettled state branch edges →
     sum_below PLACES (loose_paid k times edges) ≡ units_cost state.plan k (proposal_at state.plan k branch times)
 places-cost state branch k times edges sound all =
     let q : Proposal = proposal_at state.plan k branch times in
-    let of_requirement : Requirement → ℕ = λ r. loosening_cost k q Lower r + loosening_cost k q Upper r in
-    let of_duration : ℕ → Uncertain → ℕ = λ d u. narrowing_cost k q d Lower u + narrowing_cost k q d Upper u in
-    let slots_are = sum_below-same REQUIREMENTS (at_slot (loose_paid k times edges)) (λ slot. option_map_or of_requirement (requirement_in state.plan slot) 0) (λ slot inside. slot_cost state branch k times edges slot all inside) in
-    let durations_are = sum_below-same UNCERTAINS (at_duration (loose_paid k times edges)) (λ d. option_map_or (of_duration d) (slice_get state.plan.uncertains d) 0) (λ d inside. duration_cost state branch k times edges d all inside) in
-    let from_zero = sum_below-same UNCERTAINS (λ d. option_map_or (of_duration d) (slice_get state.plan.uncertains d) 0) (λ d. option_map_or (of_duration (0 + d)) (slice_get state.plan.uncertains d) 0)
-    (λ d _. ap (λ (e : ℕ). option_map_or (of_duration e) (slice_get state.plan.uncertains d) 0) (let e : d ≡ 0 + d = omega arith in e)) in
-    let requirements = slots-sum REQUIREMENTS state.plan.requirements of_requirement sound.distinct.slots
-    (λ i r there. (sound_requirement state.plan r sound (Contains-at state.plan.requirements i r there)).slot) in
-    let durations = durations-sum UNCERTAINS 0 state.plan.uncertains of_duration sound.counts.uncertains in
-    omega (arith, places-sum (loose_paid k times edges), slots_are, durations_are, from_zero, requirements, durations, narrowings k q 0 state.plan.uncertains)
+    let slots_are = sum_below-same REQUIREMENTS (at_slot (loose_paid k times edges)) (λ slot. option_map_or (loosenings k q) (requirement_in state.plan slot) 0) (λ slot inside. slot_cost state branch k times edges slot all inside) in
+    let durations_are = sum_below-same UNCERTAINS (at_duration (loose_paid k times edges)) (λ d. option_map_or (narrowings k q d) (slice_get state.plan.uncertains d) 0) (λ d inside. duration_cost state branch k times edges d all inside) in
+    omega (arith, places-sum (loose_paid k times edges), slots_are, durations_are, units_cost-by_items state.plan k q sound)
