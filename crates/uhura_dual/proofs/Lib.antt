@@ -1,7 +1,9 @@
-mod Beginnings
-mod KeysAt
+pub mod Beginnings
+pub mod KeysAt
 mod PlaceSums
-mod Barred
+pub mod Barred
 mod Paid
 mod PlacesCost
-mod Duality
+pub mod Duality
+pub mod Settling
+pub mod ReadOff
