@@ -1,5 +1,5 @@
 -- What leaves nothing allowed in the branches that begin with some picks.
-use Rattle.std.proofs.Common.{◌≡◌, ℕ, ◌≤◌, ℤ, pos, ◌≤ℤ◌, Bool, true, false, List, [], ◌∷◌, ◌++◌, Option, None, Some, IsSome, IsTrue, IsFalse, Contains, unwrap_or, refl, sym, ap, subst, ◌∙◌, arith, true≢false}
+use Rattle.std.proofs.Common.{◌≡◌, ℕ, pos, ◌≤ℤ◌, Bool, true, false, List, [], ◌∷◌, None, Some, IsTrue, Contains, refl, sym, ap, subst, ◌∙◌, arith, true≢false}
 use Rattle.std.specs.Prelude.{◌<ℤ◌, cond}
 use Rattle.std.specs.List.{All}
 use Rattle.std.proofs.lemmas.Int.{ints}
@@ -12,8 +12,8 @@ use Rattle.uhura_choice.specs.Branch.{holds}
 use Rattle.uhura_choice.specs.Order.{IsFrontOf}
 use Rattle.uhura_net.specs.declared.edge.Edge.{Edge}
 use Rattle.uhura_net.specs.declared.place.Place.{Place}
-use Rattle.uhura_net.specs.Place.{is_loose, is_loose_key, place_number}
-use Rattle.uhura_net.specs.Edges.{Edges, no_edge, KeepsAt, AreKeptAt}
+use Rattle.uhura_net.specs.Place.{is_loose}
+use Rattle.uhura_net.specs.Edges.{Edges, KeepsAt}
 use Rattle.uhura_net.specs.Walk.{IsClosedWalk, bounds_of, IsNegativeWalk}
 use Rattle.uhura_net.specs.Optimal.{firm_edges}
 use Rattle.uhura_net.proofs.Rows.{is_loose-place_number}
@@ -21,7 +21,7 @@ use Rattle.uhura_net.proofs.Walks.{closed-not_negative, none_meet_in_parts}
 use Rattle.uhura_veto.specs.declared.veto.Veto.TheVariants.{Deny}
 use Rattle.uhura_veto.specs.State.{State}
 use Rattle.uhura_veto.specs.Denial.{is_denied}
-use Rattle.uhura_worst.specs.Edges.{item_of, edge_of, is_active_edge}
+use Rattle.uhura_worst.specs.Edges.{item_of, is_active_edge}
 use Rattle.uhura_worst.specs.Proposal.{Proposal}
 use Rattle.uhura_worst.specs.Allowed.{Allowed}
 use Rattle.uhura_worst.specs.WorstCase.{extreme_times}

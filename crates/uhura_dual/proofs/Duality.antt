@@ -1,5 +1,5 @@
 -- Duality on plans: a circulation over settled edges bounds the cost of all that is allowed.
-use Rattle.std.proofs.Common.{◌≡◌, ℕ, ◌+◌, ◌*◌, ◌<◌, ◌≤◌, Bool, true, false, ℤ, pos, ◌+ℤ◌, ◌-ℤ◌, ◌≤ℤ◌, List, ◌++◌, Option, None, Some, IfSome, IsTrue, slice_get, Contains, refl, sym, ap, subst, ◌∙◌, arith}
+use Rattle.std.proofs.Common.{◌≡◌, ℕ, ◌*◌, ◌≤◌, Bool, true, false, ℤ, pos, ◌-ℤ◌, ◌≤ℤ◌, List, Option, None, Some, IfSome, IsTrue, slice_get, Contains, refl, sym, ap, subst, ◌∙◌, arith}
 use Rattle.std.specs.Prelude.{◌*ℤ◌, if◌then◌else◌, ◌==◌}
 use Rattle.std.specs.Option.{option_map_or}
 use Rattle.std.proofs.lemmas.Int.{ints}
@@ -9,7 +9,6 @@ use Rattle.uhura_plan.specs.declared.key.Side.{Side}
 use Rattle.uhura_plan.specs.declared.key.Side.TheVariants.{Lower, Upper}
 use Rattle.uhura_plan.specs.declared.requirement.Requirement.{Requirement}
 use Rattle.uhura_plan.specs.declared.uncertain.Uncertain.{Uncertain}
-use Rattle.uhura_plan.specs.Lists.{Lists}
 use Rattle.uhura_plan.specs.Find.{requirement_in}
 use Rattle.uhura_plan.specs.Sides.{loosening_rate, rate_of}
 use Rattle.uhura_plan.specs.Sound.{IsSound}
@@ -18,10 +17,9 @@ use Rattle.uhura_choice.specs.Branch.{holds, picked_cost}
 use Rattle.uhura_choice.specs.Order.{IsFrontOf}
 use Rattle.uhura_net.specs.declared.edge.Edge.{Edge}
 use Rattle.uhura_net.specs.declared.place.TheConstants.{PLACES}
-use Rattle.uhura_net.specs.Place.{is_loose, is_loose_key, place_number}
+use Rattle.uhura_net.specs.Place.{is_loose, is_loose_key}
 use Rattle.uhura_net.specs.Edges.{Edges, edge_at, Keeps}
-use Rattle.uhura_net.specs.Sums.{sum_below}
-use Rattle.uhura_net.specs.Circulation.{Units, IsCirculation, value_of, KeepsWithin}
+use Rattle.uhura_net.specs.Circulation.{Units, IsCirculation, value_of}
 use Rattle.uhura_net.proofs.Rows.{is_loose-place_number}
 use Rattle.uhura_net.proofs.Scaled.{scaled-plus}
 use Rattle.uhura_net.proofs.Sums.{sum_below-le}
@@ -36,12 +34,12 @@ use Rattle.uhura_worst.specs.WorstCase.{loosened_edge, MeetsWorstCase, extreme_t
 use Rattle.uhura_worst.proofs.SoundItems.{Contains-found}
 use Rattle.uhura_worst.proofs.WorstCase.{extremes-meet, extreme_times-are}
 use Rattle.uhura_worst.proofs.FirmEdges.{allowed-keeps}
-use Rattle.uhura_dual.specs.Settled.{IsSettled, AreSettled, active_edge, AreAllSettled, settled_edges, worth_with}
+use Rattle.uhura_dual.specs.Settled.{IsSettled, AreSettled, settled_edges, worth_with}
 use Rattle.uhura_dual.proofs.Beginnings.{picked-begins}
 use Rattle.uhura_dual.proofs.KeysAt.{settled_edges-are}
 use Rattle.uhura_dual.proofs.Barred.{settled-begun}
 use Rattle.uhura_dual.proofs.Paid.{excess-least, passed_at, paid, price_of-le}
-use Rattle.uhura_dual.proofs.PlacesCost.{loose_paid, units_cost, loosenings, narrowings, cost_by_items, units_cost-by_items, loosened-found, narrowed-found, places-cost}
+use Rattle.uhura_dual.proofs.PlacesCost.{loose_paid, units_cost, loosenings, narrowings, units_cost-by_items, loosened-found, narrowed-found, places-cost}
 
 -- a constraint that is kept when loosened is passed by no more than that
 passed-le : (k : ℕ) (times : ℕ → ℤ) (c : Constraint) (units : ℕ) → Keeps times (loosened_edge k units c) → passed_by k times c ≤ units

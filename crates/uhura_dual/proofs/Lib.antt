@@ -7,3 +7,5 @@ mod PlacesCost
 pub mod Duality
 pub mod Settling
 pub mod ReadOff
+mod Pairs
+mod ReadUnits

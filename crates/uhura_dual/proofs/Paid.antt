@@ -1,5 +1,5 @@
 -- What the loose and the steep edge of a side are paid together, where times pass them, is what the side costs.
-use Rattle.std.proofs.Common.{◌≡◌, ℕ, zero, suc, ◌+◌, ◌-◌, ◌*◌, ◌≤◌, ℤ, pos, negsuc, ◌+ℤ◌, ◌-ℤ◌, ◌≤ℤ◌, Option, None, Some, unwrap_or, refl, ap, sym, ◌∙◌, arith}
+use Rattle.std.proofs.Common.{◌≡◌, ℕ, ◌+◌, ◌-◌, ◌*◌, ◌≤◌, ℤ, pos, negsuc, ◌+ℤ◌, ◌-ℤ◌, ◌≤ℤ◌, Option, None, Some, unwrap_or, refl, ap, arith}
 use Rattle.std.specs.Prelude.{◌*ℤ◌, option_map, option_and_then}
 use Rattle.std.specs.Option.{option_map_or}
 use Rattle.std.proofs.lemmas.Int.{ints}
@@ -10,7 +10,7 @@ use Rattle.uhura_net.specs.declared.edge.Edge.{Edge}
 use Rattle.uhura_net.specs.Edges.{no_edge}
 use Rattle.uhura_net.proofs.Scaled.{scaled-plus}
 use Rattle.uhura_worst.specs.declared.constraint.Constraint.{Constraint}
-use Rattle.uhura_worst.specs.Cost.{second_cost, price_of}
+use Rattle.uhura_worst.specs.Cost.{price_of}
 use Rattle.uhura_worst.specs.Edges.{loose_edge, steep_edge_by, steep_edge}
 use Rattle.uhura_worst.specs.WorstCase.{excess, passed_by}
 
@@ -22,6 +22,9 @@ pub record IsLeastAbove (z : ℤ) (bound : ℕ) : Type 0 where
 pub excess-least : (z : ℤ) → IsLeastAbove z (excess z)
 excess-least (pos n) = record { above = omega (arith, ints); least = λ m above. omega (arith, ints, above) }
 excess-least (negsuc n) = record { above = omega (arith, ints); least = λ m above. omega arith }
+
+pub excess-unique : (n : ℕ) (z : ℤ) → z ≤ℤ pos n → ((m : ℕ) → z ≤ℤ pos m → n ≤ m) → n ≡ excess z
+excess-unique n z above least = omega (arith, least (excess z) (excess-least z).above, (excess-least z).least n above)
 
 -- and that of an integer less some number is its excess less the number
 excess-less : (z w : ℤ) (n : ℕ) → w ≡ z -ℤ pos n → excess w ≡ excess z - n

@@ -1,7 +1,7 @@
 -- A sum over all places is one over the items of a plan: first over places by slots and durations, then over the slots
 -- and the durations that there are.
 use Rattle.std.proofs.Common.{◌≡◌, ◌≢◌, ℕ, zero, suc, ◌+◌, ◌*◌, ◌<◌, ◌≤◌, Bool, true, false, eqb, List, [], ◌∷◌, length, get_or, Option, None, Some, slice_get, Contains, AllPairs, refl, sym, ap, ◌∙◌, arith}
-use Rattle.std.specs.Prelude.{find, nat_eq, cond, ◌==◌, sum_by}
+use Rattle.std.specs.Prelude.{find, cond, ◌==◌, sum_by}
 use Rattle.std.specs.Option.{option_map_or}
 use Rattle.std.proofs.lemmas.Bool.Decides.{Decides-eqb}
 use Rattle.std.proofs.lemmas.List.{length-map, get_or-map}

@@ -1,7 +1,7 @@
 -- What the loose places are paid for being passed by times is what the sides of the plan cost that are loosened and
 -- narrowed by as much.
-use Rattle.std.proofs.Common.{◌≡◌, ◌≢◌, ℕ, ◌+◌, ◌*◌, ◌<◌, ◌≤◌, Bool, true, false, ℤ, List, [], ◌∷◌, length, Option, None, Some, slice_get, Contains, refl, sym, ap, subst, ◌∙◌, arith}
-use Rattle.std.specs.Prelude.{find, sum_by, if◌then◌else◌, cond, option_and_then, ◌==◌}
+use Rattle.std.proofs.Common.{◌≡◌, ℕ, ◌+◌, ◌<◌, Bool, true, false, ℤ, List, [], ◌∷◌, Option, None, Some, slice_get, refl, sym, ap, ◌∙◌, arith}
+use Rattle.std.specs.Prelude.{sum_by, if◌then◌else◌, option_and_then, ◌==◌}
 use Rattle.std.specs.Option.{option_map_or}
 use Rattle.std.proofs.lemmas.Bool.Decides.{Decides-eqb}
 use Rattle.uhura_plan.specs.declared.limits.TheConstants.{REQUIREMENTS, UNCERTAINS}
@@ -9,7 +9,6 @@ use Rattle.uhura_plan.specs.declared.key.Side.{Side}
 use Rattle.uhura_plan.specs.declared.key.Side.TheVariants.{Lower, Upper}
 use Rattle.uhura_plan.specs.declared.key.Item.TheVariants as item
 use Rattle.uhura_plan.specs.declared.key.SideKey.{SideKey}
-use Rattle.uhura_plan.specs.declared.key.EdgeKey.{EdgeKey}
 use Rattle.uhura_plan.specs.declared.key.EdgeKey.TheVariants.{Loose, Firm, Order, Steep}
 use Rattle.uhura_plan.specs.declared.requirement.Requirement.{Requirement}
 use Rattle.uhura_plan.specs.declared.uncertain.Uncertain.{Uncertain}
@@ -19,9 +18,8 @@ use Rattle.uhura_plan.specs.Sides.{loosening_rate, rate_of}
 use Rattle.uhura_plan.specs.Sound.{IsSound}
 use Rattle.uhura_choice.specs.declared.prefix.Pick.{Pick}
 use Rattle.uhura_choice.specs.Branch.{holds}
-use Rattle.uhura_net.specs.declared.edge.Edge.{Edge}
 use Rattle.uhura_net.specs.declared.place.TheConstants.{PLACES}
-use Rattle.uhura_net.specs.Place.{place_number, HasPlace, IsPlacedItem, is_loose, is_loose_key}
+use Rattle.uhura_net.specs.Place.{place_number, IsPlacedItem, is_loose}
 use Rattle.uhura_net.specs.Edges.{Edges}
 use Rattle.uhura_net.specs.Sums.{sum_below}
 use Rattle.uhura_net.proofs.Rows.{is_loose-place_number}
@@ -29,9 +27,9 @@ use Rattle.uhura_net.proofs.Sums.{sum_below-same}
 use Rattle.uhura_veto.specs.State.{State}
 use Rattle.uhura_worst.specs.Proposal.{Proposal, loosened, narrowed}
 use Rattle.uhura_worst.specs.Cost.{price_of, loosening_cost, narrowing_cost, narrowings_cost}
-use Rattle.uhura_worst.specs.Edges.{requirement_constraint, duration_constraint, loose_edge, steep_edge, requirement_edge, duration_edge, edge_of}
-use Rattle.uhura_worst.specs.WorstCase.{passed_by, requirement_passed, passed_in, proposal_at}
-use Rattle.uhura_worst.proofs.SoundItems.{Contains-at, Contains-found, sound_requirement}
+use Rattle.uhura_worst.specs.Edges.{requirement_constraint, duration_constraint, loose_edge, steep_edge, requirement_edge, duration_edge}
+use Rattle.uhura_worst.specs.WorstCase.{passed_by, requirement_passed, proposal_at}
+use Rattle.uhura_worst.proofs.SoundItems.{Contains-at, sound_requirement}
 use Rattle.uhura_worst.proofs.FirstItems.{passes}
 use Rattle.uhura_dual.specs.Settled.{active_edge, AreAllSettled}
 use Rattle.uhura_dual.proofs.Paid.{paid, side-paid, side-paid_where_there, price_of-none}
@@ -69,7 +67,7 @@ pub narrowed-found : (plan : Lists) (k : ℕ) (branch : List Pick) (times : ℕ 
 narrowed-found plan k branch times at d u found = ap (λ (o : Option Uncertain). option_map_or (λ (v : Uncertain). passed_by k times (duration_constraint at d v)) o 0) found
 
 -- for a side of a requirement that is what it costs, with the units by which the times pass it
-slot_side : (state : State) (branch : List Pick) (k : ℕ) (times : ℕ → ℤ) (at : Side) (slot : ℕ) → 
+slot_side : (state : State) (branch : List Pick) (k : ℕ) (times : ℕ → ℤ) (at : Side) (slot : ℕ) →
     paid k times (active_edge state branch (Loose (side (item.Requirement slot) at))) + paid k times (active_edge state branch (Steep (side (item.Requirement slot) at)))
     ≡ option_map_or (loosening_cost k (proposal_at state.plan k branch times) at) (requirement_in state.plan slot) 0
 slot_side state branch k times at slot = by (requirement_in state.plan slot) refl

@@ -1,5 +1,5 @@
 -- All settled edges are such, and they have the firm edges of the state among them.
-use Rattle.std.proofs.Common.{◌≡◌, ℕ, ◌<◌, ◌≤◌, Bool, true, false, ℤ, List, Option, None, Some, IsTrue, IsFalse, slice_get, refl, sym, ap, subst, ◌∙◌, arith, inl, inr}
+use Rattle.std.proofs.Common.{◌≡◌, ℕ, ◌<◌, Bool, true, false, ℤ, List, Option, None, Some, slice_get, refl, sym, ap, ◌∙◌, arith, inl, inr}
 use Rattle.std.specs.Prelude.{if◌then◌else◌, cond, option_and_then, ◌==◌}
 use Rattle.std.proofs.lemmas.Int.{ints}
 use Rattle.std.proofs.lemmas.Bool.{cases_lt}
@@ -12,14 +12,13 @@ use Rattle.uhura_plan.specs.declared.key.EdgeKey.{EdgeKey}
 use Rattle.uhura_plan.specs.declared.key.EdgeKey.TheVariants.{Loose, Firm, Order, Steep}
 use Rattle.uhura_plan.specs.declared.requirement.Requirement.{Requirement}
 use Rattle.uhura_plan.specs.declared.uncertain.Uncertain.{Uncertain}
-use Rattle.uhura_plan.specs.Lists.{Lists}
 use Rattle.uhura_plan.specs.Find.{requirement_in}
 use Rattle.uhura_plan.specs.Sound.{IsSound}
 use Rattle.uhura_choice.specs.declared.prefix.Pick.{Pick}
 use Rattle.uhura_net.specs.declared.edge.Edge.{Edge}
 use Rattle.uhura_net.specs.declared.place.TheConstants.{PLACES}
-use Rattle.uhura_net.specs.Place.{place_number, HasPlace, IsPlacedItem, StandsAt, is_loose, is_loose_key}
-use Rattle.uhura_net.specs.Edges.{Edges, Keeps, AreKept}
+use Rattle.uhura_net.specs.Place.{place_number, HasPlace, IsPlacedItem, StandsAt}
+use Rattle.uhura_net.specs.Edges.{Edges, AreKept}
 use Rattle.uhura_net.specs.Optimal.{firm_edges}
 use Rattle.uhura_net.proofs.Keys.{key_at}
 use Rattle.uhura_net.proofs.Rows.{is_loose-place_number}

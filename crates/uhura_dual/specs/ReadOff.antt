@@ -1,11 +1,12 @@
 -- The proposal that is read off potentials of the nodes: they pass the bounds of some sides, and these are loosened or
 -- narrowed by as much.
-use Rattle.std.specs.Prelude.{◌≡◌, ℕ, ◌+◌, ◌≤ℤ◌, ℤ, pos, neg_ℤ, nat_lt, IsFalse, List, [], ◌∷◌, ◌++◌, length, map}
-use Rattle.std.specs.List.{All, filter, flat_map, range_with_len}
+use Rattle.std.specs.Prelude.{◌≡◌, ℕ, ◌+◌, ◌≤ℤ◌, ℤ, pos, neg_ℤ, nat_lt, IsFalse, if◌then◌else◌, List, [], ◌∷◌, ◌++◌, length, map}
+use Rattle.std.specs.List.{All, flat_map, range_with_len}
 use Rattle.uhura_plan.specs.declared.key.Side.TheVariants.{Lower, Upper}
 use Rattle.uhura_plan.specs.declared.key.Item.{Item}
 use Rattle.uhura_plan.specs.declared.key.Item.TheVariants as item
 use Rattle.uhura_plan.specs.declared.key.SideKey.{SideKey}
+use Rattle.uhura_plan.specs.declared.requirement.Requirement.{Requirement}
 use Rattle.uhura_plan.specs.Lists.{Lists}
 use Rattle.uhura_choice.specs.declared.prefix.Pick.{Pick}
 use Rattle.uhura_choice.specs.Branch.{IsBranch, picked_cost}
@@ -38,27 +39,38 @@ sides_of_item of = record { item = of; side = Lower } ∷ record { item = of; si
 
 -- the items of a plan in the order in which a proposal names them: the requirements and then the durations, each in
 -- the plan's order
-abbrev pub items_of : Lists → List Item
-items_of plan = map (λ r. item.Requirement r.slot) plan.requirements
-    ++ map (λ d. item.Uncertain d) (range_with_len 0 (length plan.uncertains))
+abbrev pub requirement_items : List Requirement → List Item
+requirement_items requirements = map (λ r. item.Requirement r.slot) requirements
 
--- the sides of a plan in that order
-abbrev pub sides_of : Lists → List SideKey
-sides_of plan = flat_map sides_of_item (items_of plan)
+abbrev pub duration_items : ℕ → List Item
+duration_items durations = map (λ d. item.Uncertain d) (range_with_len 0 durations)
+
+abbrev pub items_of : Lists → List Item
+items_of plan = requirement_items plan.requirements ++ duration_items (length plan.uncertains)
 
 -- by how much times of nodes pass the bound that is stated for a side: 0 where it has none, and on requirements that
 -- aren't active in the branch
 abbrev pub passed_side : Lists → List Pick → (ℕ → ℤ) → SideKey → ℕ
 passed_side plan branch times key = passed_in plan 1 branch times key.side key.item
 
--- each of the sides with its units, where these are above 0
-abbrev pub with_units : (SideKey → ℕ) → List SideKey → List (SideKey × ℕ)
-with_units units sides = filter (λ pair. nat_lt 0 pair.1) (map (λ key. (key, units key)) sides)
+-- a side with its units, where these are above 0
+abbrev pub some_units : SideKey → ℕ → List (SideKey × ℕ)
+some_units key units = if nat_lt 0 units then (key, units) ∷ [] else []
 
--- the sides of a plan that potentials pass, with the units by which they do
+-- and each of these sides
+abbrev pub with_units : (SideKey → ℕ) → List SideKey → List (SideKey × ℕ)
+with_units units sides = flat_map (λ key. some_units key (units key)) sides
+
+-- the sides of these items that potentials pass, with the units by which they do
+abbrev pub passed_in_items :
+    Lists → List Pick → List ℤ → List Item → List (SideKey × ℕ)
+passed_in_items plan branch potentials items =
+    with_units (passed_side plan branch (time_at potentials)) (flat_map sides_of_item items)
+
+-- and those of all items of the plan
 abbrev pub passed_sides : Lists → List Pick → List ℤ → List (SideKey × ℕ)
 passed_sides plan branch potentials =
-    with_units (passed_side plan branch (time_at potentials)) (sides_of plan)
+    passed_in_items plan branch potentials (items_of plan)
 
 -- the proposal with the units of these pairs and the potentials of the events as times
 abbrev pub read_off : List Pick → List (SideKey × ℕ) → List ℤ → Proposal

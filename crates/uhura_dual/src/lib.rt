@@ -4,6 +4,7 @@
 #![tactic(auto)]
 
 pub mod laws;
+mod passing;
 mod reading;
 
 pub use reading::loosening;
