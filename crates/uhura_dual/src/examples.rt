@@ -3,6 +3,7 @@
 ghost use Rattle.std.specs.Prelude.{◌≡◌, ℕ, ◌*◌, ◌≤◌, ◌∷◌, [], pos};
 ghost use Rattle.uhura_plan.specs.declared.key.Side.TheVariants.{Lower, Upper};
 ghost use Rattle.uhura_plan.specs.declared.key.EdgeKey.TheVariants.{Loose, Firm, Order, Steep};
+ghost use Rattle.uhura_plan.specs.Sound.{IsSound};
 ghost use Rattle.uhura_choice.specs.declared.prefix.Pick.TheVariants.{Alternative};
 ghost use Rattle.uhura_net.specs.declared.place.TheConstants.{PLACES};
 ghost use Rattle.uhura_net.specs.Circulation.{IsCirculation};
@@ -21,7 +22,7 @@ pub fn drive_is_read_off()
         ≡ (requirement_side 0 Upper, 10) ∷ [] }
     ensures cut { passed_sides evening_drive.plan [] (ends_at (pos 30) (pos 40))
         ≡ (duration_side 0 Upper, 10) ∷ [] }
-    ensures kept { passed_sides evening_drive.plan [] (ends_at (pos 30) (pos 38))
+    ensures shorter { passed_sides evening_drive.plan [] (ends_at (pos 30) (pos 38))
         ≡ (duration_side 0 Upper, 12) ∷ [] }
 {}
 
@@ -58,14 +59,12 @@ pub fn places_have_their_edges()
 /// Where dinner later and a shorter drive cost the same, 3 units around them are worth 30. So no fraction costs less
 /// than that in whole units, and half a minute cut with the rest later costs as much.
 pub fn fractions_cost_as_much()
-    ensures circulation {
-        IsCirculation PLACES (settled_edges even_drive []) (around_drive 3) }
-    ensures too_many {
-        IsCirculation PLACES (settled_edges even_drive []) (around_drive 4) → ⊥ }
-    ensures worth {
-        worth_with even_drive.plan [] (settled_edges even_drive []) (around_drive 3) ≡ pos 30 }
-    ensures bound { (k : ℕ) (q : Proposal) → Allowed even_drive k q →
+    ensures circulation { IsCirculation PLACES (settled_edges even_drive []) (around_drive 3) }
+    ensures too_many { IsCirculation PLACES (settled_edges even_drive []) (around_drive 4) → ⊥ }
+    ensures worth { worth_with even_drive.plan [] (settled_edges even_drive []) (around_drive 3) ≡ pos 30 }
+    ensures bound { (k : ℕ) (q : Proposal) → IsSound even_drive.plan → Allowed even_drive k q →
         k * 30 ≤ cost even_drive.plan k q }
     ensures whole { cost even_drive.plan 1 (later_and_cut 10 0) ≡ 30 }
-    ensures halves { cost even_drive.plan 2 (later_and_cut 19 1) ≡ 60 }
+    ensures halves { Allowed even_drive 2 (later_and_cut 19 1) }
+    ensures as_much { cost even_drive.plan 2 (later_and_cut 19 1) ≡ 60 }
 {}
