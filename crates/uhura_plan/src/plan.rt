@@ -10,10 +10,9 @@ mod made;
 mod refuse;
 mod slot;
 
-pub use refuse::repeated_in;
-
 use crate::{Choice, Name, Requirement, Uncertain};
 use indexmap::{IndexMap, IndexSet};
+pub use refuse::repeated_in;
 use std::alloc::{AllocError, Global};
 use std::marker::Model;
 
