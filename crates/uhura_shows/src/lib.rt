@@ -1,0 +1,4 @@
+//! What leaves show.
+#![tactic(auto)]
+
+pub mod laws;
