@@ -1,5 +1,5 @@
 -- What a leaf shows of the branches that its prefix begins.
-use Rattle.std.proofs.Common.{◌≡◌, ℕ, ◌+◌, ◌*◌, ◌<◌, ◌≤◌, false, true≢false, List, [], ◌∷◌, ◌++◌, map, length, None, Some, Option, IsSome, unwrap_or, slice_get, get_or, option_map, refl, sym, ap, ◌∙◌, subst, inl, inr, arith, Contains}
+use Rattle.std.proofs.Common.{◌≡◌, ℕ, ◌+◌, ◌*◌, ◌<◌, ◌≤◌, false, true≢false, List, ◌++◌, map, length, None, Some, Option, IsSome, unwrap_or, slice_get, get_or, option_map, refl, sym, ap, ◌∙◌, subst, inl, inr, arith, Contains}
 use Rattle.std.specs.Prelude.{◌⊎◌, ℤ, pos, ◌+ℤ◌, ◌*ℤ◌, ◌≤ℤ◌, IsTrue, IsFalse, All}
 use Rattle.std.specs.Option.{option_map_or}
 use Rattle.std.proofs.lemmas.Int.{ints}
@@ -10,7 +10,6 @@ use Rattle.std.proofs.lemmas.Option.{none-some, same_Some, slice_get_within, get
 use Rattle.uhura_plan.specs.Sound.{IsSound}
 use Rattle.uhura_plan.specs.declared.key.EdgeKey.{EdgeKey}
 use Rattle.uhura_choice.specs.declared.prefix.Pick.{Pick}
-use Rattle.uhura_choice.specs.declared.prefix.Pick.TheVariants.{Alternative, Inactive}
 use Rattle.uhura_choice.specs.Branch.{IsEarlier, picked_cost}
 use Rattle.uhura_choice.specs.Order.{IsFrontOf}
 use Rattle.uhura_choice.proofs.Earlier.{begun-not_earlier}
@@ -35,6 +34,7 @@ use Rattle.uhura_shows.specs.Carried.{keyed_edge, AreSettledKeys, IsFirmKey, IsK
 use Rattle.uhura_shows.specs.Shows.{is_denied_by, IsStuckBy, shown_cost, IsShownBy, Shows}
 use Rattle.uhura_shows.specs.Dual.{AreSettled, BoundsCosts, worth_with}
 use Rattle.uhura_shows.proofs.Begun.{denies-more, active-more}
+use Rattle.uhura_shows.proofs.Behind.{earlier-begun}
 use Rattle.uhura_shows.proofs.Lists.{All-from_map}
 use Rattle.uhura_shows.proofs.Placed.{edge-placed}
 use Rattle.uhura_shows.proofs.Pairs.{pair_units, pair_edges, pair_edges-pair, IsOfPair, pairs-placed, pairs-list, value-pairs, circulation-at}
@@ -157,24 +157,6 @@ leaves-cheapest state p leaves dual sound allowed shows = record {
       leaf-bounds state p.branch (cost state.plan 1 p) dual sound k q other of.leaf.prefix of.leaf.reason
       (All-contains (λ leaf. IsShownBy state (Some (p.branch, cost state.plan 1 p)) leaf.prefix leaf.reason) leaves of.leaf shows.reasons of.contained) of.begins;
 }
-
--- where a prefix begins something that is earlier than a branch, it is earlier itself, or begins the branch
-pub earlier-begun : (prefix rest branch : List Pick) → IsEarlier (prefix ++ rest) branch → IsFrontOf prefix branch ⊎ IsEarlier prefix branch
-earlier-begun [] rest branch before = inl (branch, refl)
-earlier-begun (x ∷ prefix) rest [] before = absurd before
-earlier-begun (Inactive ∷ prefix) rest (Inactive ∷ branch) before = by (earlier-begun prefix rest branch before)
-  where
-    by : IsFrontOf prefix branch ⊎ IsEarlier prefix branch → IsFrontOf (Inactive ∷ prefix) (Inactive ∷ branch) ⊎ IsEarlier (Inactive ∷ prefix) (Inactive ∷ branch)
-    by (inl front) = inl (front.0, ap (λ l. Inactive ∷ l) front.1)
-    by (inr earlier) = inr earlier
-earlier-begun (Inactive ∷ prefix) rest (Alternative b ∷ branch) before = absurd before
-earlier-begun (Alternative a ∷ prefix) rest (Inactive ∷ branch) before = absurd before
-earlier-begun (Alternative a ∷ prefix) rest (Alternative b ∷ branch) (inl less) = inr (inl less)
-earlier-begun (Alternative a ∷ prefix) rest (Alternative b ∷ branch) (inr same) = by (earlier-begun prefix rest branch same.1)
-  where
-    by : IsFrontOf prefix branch ⊎ IsEarlier prefix branch → IsFrontOf (Alternative a ∷ prefix) (Alternative b ∷ branch) ⊎ IsEarlier (Alternative a ∷ prefix) (Alternative b ∷ branch)
-    by (inl (more, is)) = let equal : a ≡ b = same.0 in inl (more, cc)
-    by (inr earlier) = inr (inr (same.0, earlier))
 
 -- nor that anything that costs the same has an earlier branch
 pub leaves-first : (state : State) (p : Proposal) (leaves : List LeafShown) → BoundsCosts state → IsSound state.plan → Shows state (Some (p.branch, cost state.plan 1 p)) leaves → IsFirst state p

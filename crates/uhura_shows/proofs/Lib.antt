@@ -1,4 +1,5 @@
 pub mod Begun
+pub mod Behind
 pub mod Leaves
 pub mod Lists
 pub mod Pairs

@@ -1,8 +1,10 @@
 -- The branches behind all those that a prefix begins, and which branches prefixes cover so far.
-use Rattle.std.specs.Prelude.{◌≡◌, ◌⊎◌, List, All, AllPairs, Option, None, Some, IfSome}
+use Rattle.std.specs.Prelude.{◌≡◌, ◌⊎◌, ℕ, List, All, AllPairs, Option, None, Some, IfSome}
 use Rattle.uhura_plan.specs.declared.choice.Choice.{Choice}
 use Rattle.uhura_choice.specs.declared.prefix.Pick.{Pick}
+use Rattle.uhura_choice.specs.declared.prefix.Pick.TheVariants.{Alternative, Inactive}
 use Rattle.uhura_choice.specs.Branch.{IsBranch, IsPrefix, IsEarlier}
+use Rattle.uhura_choice.specs.Order.{IsFrontOf}
 use Rattle.uhura_shows.specs.Cover.{IsBegunIn}
 
 -- no branch is later than those that the prefix begins
@@ -37,3 +39,19 @@ pub record CoversUpTo (choices : List Choice) (prefixes : List (List Pick))
   pub every : (branch : List Pick) → IsBranch choices branch → ComesBefore branch next →
       IsBegunIn prefixes branch
   pub next_branch : IfSome next (IsBranch choices)
+
+-- how many children of a prefix come before the one with this entry
+abbrev pub child_index : Pick → ℕ
+child_index (Alternative a) = a
+child_index Inactive = 0
+
+-- the branches behind a prefix begin with the other one, or are later than those that it begins
+pub record IsLeadBehind (choices : List Choice) (prefix lead : List Pick) : Type 0 where
+  pub is_prefix : IsPrefix choices lead
+  pub behind : IsEarlier prefix lead
+  pub first : (branch : List Pick) → IsBranch choices branch → IsEarlier prefix branch →
+      IsFrontOf lead branch ⊎ IsEarlier lead branch
+
+abbrev pub LeadsBehind : List Choice → List Pick → Option (List Pick) → Type 0
+LeadsBehind choices prefix None = NoneIsBehind choices prefix
+LeadsBehind choices prefix (Some lead) = IsLeadBehind choices prefix lead
