@@ -1,6 +1,9 @@
 pub mod Begun
 pub mod Behind
+pub mod Covering
+pub mod Going
 pub mod Leaves
 pub mod Lists
 pub mod Pairs
+pub mod Passing
 pub mod Placed

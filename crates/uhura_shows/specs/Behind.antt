@@ -55,3 +55,8 @@ pub record IsLeadBehind (choices : List Choice) (prefix lead : List Pick) : Type
 abbrev pub LeadsBehind : List Choice → List Pick → Option (List Pick) → Type 0
 LeadsBehind choices prefix None = NoneIsBehind choices prefix
 LeadsBehind choices prefix (Some lead) = IsLeadBehind choices prefix lead
+
+-- each branch before the next one has what is asked for, and each branch at all where there is no next one
+abbrev pub HaveBefore : List Choice → (List Pick → Type 0) → Option (List Pick) → Type 0
+HaveBefore choices Has next =
+    (branch : List Pick) → IsBranch choices branch → ComesBefore branch next → Has branch
