@@ -7,3 +7,4 @@ pub mod Lists
 pub mod Pairs
 pub mod Passing
 pub mod Placed
+pub mod Sides

@@ -3,6 +3,7 @@
 //! follows for the proposals that are allowed, and `next_branch_behind` goes on behind a prefix.
 #![tactic(auto)]
 
+pub mod examples;
 pub mod laws;
 mod walk;
 
