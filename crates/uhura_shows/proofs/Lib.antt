@@ -2,8 +2,10 @@ pub mod Begun
 pub mod Behind
 pub mod Covering
 pub mod Going
+pub mod Keyed
 pub mod Leaves
 pub mod Lists
+pub mod Merging
 pub mod Pairs
 pub mod Passing
 pub mod Placed

@@ -39,7 +39,8 @@ pub fn leaves_show_that_nothing_is_allowed()
 
 /// Covers are joined to covers. Nothing covers nothing, and a prefix covers itself; covers of tops that come after one
 /// another are one cover of them all; what covers the children of a prefix covers the prefix; what covers a prefix may
-/// stand in its place; and what covers the empty prefix, which begins every branch, is a cover of the branches.
+/// stand in its place, and the prefix in theirs; and what covers the empty prefix, which begins every branch, is a cover
+/// of the branches.
 pub fn covers_are_joined()
     ensures nothing { (choices : List Choice) → Covers choices [] [] }
     ensures itself { (choices : List Choice) (prefix : List Pick) → IsPrefix choices prefix →
@@ -57,6 +58,10 @@ pub fn covers_are_joined()
         (prefix : List Pick) (prefixes : List (List Pick)) →
         Covers choices tops (before ++ prefix ∷ after) → Covers choices (prefix ∷ []) prefixes →
         Covers choices tops (before ++ (prefixes ++ after)) }
+    ensures merged { (choices : List Choice) (before prefixes after : List (List Pick))
+        (prefix : List Pick) → IsCover choices (before ++ (prefixes ++ after)) →
+        Covers choices (prefix ∷ []) prefixes → IsPrefix choices prefix →
+        IsCover choices (before ++ prefix ∷ after) }
     ensures all { (choices : List Choice) (prefixes : List (List Pick)) →
         Covers choices ([] ∷ []) prefixes ↔ IsCover choices prefixes }
 {}
