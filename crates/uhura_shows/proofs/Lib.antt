@@ -1,4 +1,3 @@
-pub mod Begun
 pub mod Behind
 pub mod Covering
 pub mod Going

@@ -3,5 +3,4 @@ pub mod Cover
 pub mod Behind
 pub mod Carried
 pub mod Shows
-pub mod Dual
 pub mod Examples

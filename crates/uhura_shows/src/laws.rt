@@ -15,7 +15,6 @@ ghost use Rattle.uhura_worst.specs.Allowed.{Allowed};
 ghost use Rattle.uhura_worst.specs.Cost.{cost};
 ghost use Rattle.uhura_worst.specs.Best.{IsCheapest, IsFirst, AllowsNothing};
 ghost use Rattle.uhura_shows.specs.Leaf.{LeafShown};
-ghost use Rattle.uhura_shows.specs.Dual.{BoundsCosts};
 ghost use Rattle.uhura_shows.specs.Cover.{IsCover, Covers};
 ghost use Rattle.uhura_shows.specs.Behind.{IsBehind, CoversUpTo, ComesBefore};
 ghost use Rattle.uhura_shows.specs.Shows.{Shows};
@@ -24,10 +23,10 @@ ghost use Rattle.uhura_shows.specs.Shows.{Shows};
 /// allowed, whole or in k-ths, costs less, and that nothing that costs the same has an earlier branch.
 pub fn leaves_show_the_first_of_the_cheapest()
     ensures cheapest { (state : State) (p : Proposal) (leaves : List LeafShown) →
-        BoundsCosts state → IsSound state.plan → Allowed state 1 p →
+        IsSound state.plan → Allowed state 1 p →
         Shows state (Some (p.branch, cost state.plan 1 p)) leaves → IsCheapest state p }
     ensures first { (state : State) (p : Proposal) (leaves : List LeafShown) →
-        BoundsCosts state → IsSound state.plan → Allowed state 1 p →
+        IsSound state.plan → Allowed state 1 p →
         Shows state (Some (p.branch, cost state.plan 1 p)) leaves → IsFirst state p }
 {}
 
