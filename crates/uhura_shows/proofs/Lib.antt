@@ -9,3 +9,4 @@ pub mod Pairs
 pub mod Passing
 pub mod Placed
 pub mod Sides
+pub mod SoundSides

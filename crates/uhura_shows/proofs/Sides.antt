@@ -9,10 +9,12 @@ use Rattle.uhura_choice.specs.declared.prefix.Pick.{Pick}
 use Rattle.uhura_choice.specs.declared.prefix.Pick.TheVariants.{Alternative}
 use Rattle.uhura_choice.specs.Branch.{IsPrefix, IsEarlier}
 use Rattle.uhura_choice.proofs.Prefixes.{HaveAlternatives}
-use Rattle.uhura_worst.specs.Examples.{side_choice}
+use Rattle.uhura_worst.specs.Examples.{side_choice, two_sides}
+use Rattle.uhura_shows.specs.Leaf.{LeafShown}
+use Rattle.uhura_shows.specs.Shows.{IsShownBy, Shows}
 use Rattle.uhura_shows.specs.Cover.{IsBegunByOne, IsCover, Covers}
 use Rattle.uhura_shows.specs.Behind.{child_index}
-use Rattle.uhura_shows.specs.Examples.{left, right, price_choice, free_choice, dear_x, dear_y}
+use Rattle.uhura_shows.specs.Examples.{flow, left, right, clash_by, both_sides, price_choice, free_choice, dear_x, dear_y}
 use Rattle.uhura_shows.proofs.Covering.{covers-themselves, covers-itself, covers-append, covers-up, covers-all, the-one}
 
 -- two prefixes in order
@@ -64,3 +66,14 @@ prices-cover =
     (covers-up cs [] (left ∷ dear_x ∷ dear_y ∷ []) prices-have (dear_x, search rules) (λ whole. whole)
     (covers-append cs (left ∷ []) (right ∷ []) (left ∷ []) (dear_x ∷ dear_y ∷ []) (covers-itself cs left (Alternative 0 ∷ [], search rules)) dear
     (λ top other has there. subst (λ l. IsEarlier l other) (the-one left top has) (subst (λ l. IsEarlier left l) (the-one right other there) (inl (lit< tt))))))
+
+-- the leaves of both sides show that the left one costs 5
+pub sides-shown : Shows two_sides (Some (left, 5)) (both_sides (clash_by 1 1))
+sides-shown = record {
+  cover = sides-cover;
+  reasons =
+      All-cons (λ (leaf : LeafShown). IsShownBy two_sides (Some (left, 5)) leaf.prefix leaf.reason) (flow left []) (flow right (clash_by 1 1) ∷ []) (search rules)
+      (All-cons (λ (leaf : LeafShown). IsShownBy two_sides (Some (left, 5)) leaf.prefix leaf.reason) (flow right (clash_by 1 1)) [] (search rules)
+      (All-nil (λ (leaf : LeafShown). IsShownBy two_sides (Some (left, 5)) leaf.prefix leaf.reason)));
+  whole = search rules;
+}

@@ -9,7 +9,9 @@ use Rattle.uhura_choice.specs.declared.prefix.Pick.{Pick}
 use Rattle.uhura_choice.specs.declared.prefix.Pick.TheVariants.{Alternative}
 use Rattle.uhura_veto.specs.declared.veto.Veto.TheVariants.{Deny, Cap}
 use Rattle.uhura_veto.specs.State.{State}
-use Rattle.uhura_worst.specs.Examples.{requirement_side, duration_side, unbounded, bounded, near, far, side_choice}
+use Rattle.uhura_worst.specs.Examples.{requirement_side, duration_side, unbounded, bounded, near, far, side_choice, first_at_zero}
+use Rattle.uhura_worst.specs.Units.{side_units}
+use Rattle.uhura_worst.specs.Proposal.{Proposal}
 use Rattle.uhura_shows.specs.Leaf.{Denied, Flow, Stuck, LeafShown}
 
 abbrev pub denied : List Pick → ℕ → LeafShown
@@ -123,3 +125,11 @@ dear_y = Alternative 1 ∷ Alternative 1 ∷ []
 -- the cheap alternative has one leaf for both of the free ones
 abbrev pub cheap_leaf : LeafShown
 cheap_leaf = flow left (clash_by 1 1)
+
+-- the right side at scale 2: in halves, 12 after the first event, with its bound loosened by 2
+abbrev pub right_in_halves : Proposal
+right_in_halves = record {
+  branch = right;
+  units = side_units ((requirement_side 0 Upper, 4) ∷ []);
+  times = first_at_zero (pos 24);
+}

@@ -1,13 +1,17 @@
 //! The definitions tried on leaves of worked plans: each contract is a fact about leaves of `specs/Examples.antt`, and
 //! the bodies are empty.
-ghost use Rattle.std.specs.Prelude.{None, Some, [], ◌∷◌};
+ghost use Rattle.std.specs.Prelude.{◌≡◌, ◌*◌, None, Some, [], ◌∷◌};
+ghost use Rattle.uhura_choice.specs.Branch.{IsEarlier};
 ghost use Rattle.uhura_plan.specs.declared.key.Side.TheVariants.{Lower, Upper};
 ghost use Rattle.uhura_plan.specs.declared.key.EdgeKey.TheVariants.{Loose, Firm, Steep};
-ghost use Rattle.uhura_worst.specs.Examples.{two_sides, capped_drive, rising_evening, requirement_side};
+ghost use Rattle.uhura_worst.specs.Allowed.{Allowed};
+ghost use Rattle.uhura_worst.specs.Cost.{cost};
+ghost use Rattle.uhura_worst.specs.Best.{IsCheapest, IsFirst};
+ghost use Rattle.uhura_worst.specs.Examples.{two_sides, by_left, capped_drive, rising_evening, requirement_side};
 ghost use Rattle.uhura_shows.specs.Shows.{Answer, Shows};
 ghost use Rattle.uhura_shows.specs.Examples.{denied, flow, stuck, left, right, clash_by, both_sides};
 ghost use Rattle.uhura_shows.specs.Examples.{drive_leaf, rising_leaf, both_denied, clashing};
-ghost use Rattle.uhura_shows.specs.Examples.{cheap_or_dear, dear_x, dear_y, cheap_leaf};
+ghost use Rattle.uhura_shows.specs.Examples.{cheap_or_dear, dear_x, dear_y, cheap_leaf, right_in_halves};
 
 /// The leaves of two sides that both cost 5 show that the left one does, and no more than that. They don't show the right
 /// one, since the left one comes before it and costs as little.
@@ -88,4 +92,14 @@ pub fn leaf_covers_the_branches_of_its_prefix()
     ensures shown { Shows cheap_or_dear (Some (dear_x, 4))
         (cheap_leaf ∷ flow dear_x [] ∷ flow dear_y [] ∷ []) }
     ensures proper { Shows cheap_or_dear (Some (dear_x, 4)) (cheap_leaf ∷ flow right [] ∷ []) → ⊥ }
+{}
+
+/// In halves the right side costs twice as much as the left one does in whole units: no less, and it is later. So the
+/// leaves of both sides show that the left one is the answer.
+pub fn halves_cost_no_less()
+    ensures allowed { Allowed two_sides 2 right_in_halves }
+    ensures same_cost { cost two_sides.plan 2 right_in_halves ≡ 2 * cost two_sides.plan 1 by_left }
+    ensures later { IsEarlier by_left.branch right_in_halves.branch }
+    ensures cheapest { IsCheapest two_sides by_left }
+    ensures first { IsFirst two_sides by_left }
 {}
