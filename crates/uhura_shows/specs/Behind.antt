@@ -5,6 +5,7 @@ use Rattle.uhura_choice.specs.declared.prefix.Pick.{Pick}
 use Rattle.uhura_choice.specs.declared.prefix.Pick.TheVariants.{Alternative, Inactive}
 use Rattle.uhura_choice.specs.Branch.{IsBranch, IsPrefix, IsEarlier}
 use Rattle.uhura_choice.specs.Order.{IsFrontOf}
+use Rattle.uhura_choice.specs.Walk.{IsFirstFrom}
 use Rattle.uhura_shows.specs.Cover.{IsBegunIn}
 
 -- no branch is later than those that the prefix begins
@@ -60,3 +61,9 @@ LeadsBehind choices prefix (Some lead) = IsLeadBehind choices prefix lead
 abbrev pub HaveBefore : List Choice → (List Pick → Type 0) → Option (List Pick) → Type 0
 HaveBefore choices Has next =
     (branch : List Pick) → IsBranch choices branch → ComesBefore branch next → Has branch
+
+-- the prefix has these picks, and the branch is the first that they begin
+pub record IsPrefixOfFirst (choices : List Choice) (picks branch prefix : List Pick) : Type 0 where
+  pub picked : prefix ≡ picks
+  pub is_prefix : IsPrefix choices picks
+  pub first : IsFirstFrom choices picks branch

@@ -52,7 +52,7 @@ fn prefix_behind(plan: &Plan, prefix: &Prefix) -> Option<Prefix>
 }
 
 /// How many children of a prefix come before the one with this entry.
-fn child_index(pick: Pick) -> u32
+pub(crate) fn child_index(pick: Pick) -> u32
     ensures { result ≡ child_index pick }
 {
     match pick {
