@@ -1,6 +1,7 @@
 -- The branches behind a prefix, one entry after another.
-use Rattle.std.proofs.Common.{◌≡◌, ℕ, ◌+◌, ◌<◌, ◌≤◌, List, [], ◌∷◌, ◌++◌, None, Some, Option, ap, sym, subst, refl, ◌∙◌, arith, length, take, get_or, append_assoc, append-nil, inl, inr, cond}
+use Rattle.std.proofs.Common.{◌≡◌, ℕ, ◌+◌, ◌<◌, ◌≤◌, List, [], ◌∷◌, ◌++◌, None, Some, Option, ap, sym, subst, refl, ◌∙◌, arith, length, take, drop, take-append-drop, get_or, append_assoc, append-nil, inl, inr, cond}
 use Rattle.std.specs.Prelude.{◌⊎◌, slice_get}
+use Rattle.std.proofs.Math.Seq.{take-append_seam}
 use Rattle.std.proofs.lemmas.Option.{same_Some, slice_get_within, get_or_from_slice_get}
 use Rattle.std.proofs.lemmas.Bool.{cases_eq, cases_lt}
 use Rattle.std.proofs.lemmas.List.{length_push, take_more}
@@ -238,3 +239,22 @@ pub entry-later : (cs : List Choice) (picks : List Pick) (place : ℕ) (front ne
 entry-later cs picks place front next lead index have at is there =
     subst (λ l. LeadsBehind cs l (Some lead)) (sym (is ∙ at.further))
     (leads-anew cs front at.entry at.is_prefix lead have (subst (λ n. slice_get (children cs front) (n + 1) ≡ Some lead) at.at there))
+
+-- the first branch of a prefix is the only one
+pub first-unique : (cs : List Choice) (prefix one other : List Pick) → IsFirstFrom cs prefix one → IsFirstFrom cs prefix other → one ≡ other
+first-unique cs prefix one other first second = by (compare cs one other first.is_branch second.is_branch)
+  where
+    by : Compare one other → one ≡ other
+    by (inl same) = same
+    by (inr (inl before)) =
+        absurd (second.none_earlier first.begins.0 (subst (λ b. IsBranch cs b) first.begins.1 first.is_branch) (subst (λ b. IsEarlier b other) first.begins.1 before))
+    by (inr (inr after)) =
+        absurd (first.none_earlier second.begins.0 (subst (λ b. IsBranch cs b) second.begins.1 second.is_branch) (subst (λ b. IsEarlier b one) second.begins.1 after))
+
+-- what begins picks are so many of them
+pub front-take : (front picks : List Pick) → IsFrontOf front picks → take (length front) picks ≡ front
+front-take front picks (rest, is) = ap (take (length front)) is ∙ take-append_seam front rest
+
+pub take-front : (front picks : List Pick) → take (length front) picks ≡ front → IsFrontOf front picks
+take-front front picks is =
+    (drop (length front) picks, sym (take-append-drop (length front) picks) ∙ ap (λ (l : List Pick). l ++ drop (length front) picks) is)

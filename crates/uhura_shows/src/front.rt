@@ -1,6 +1,8 @@
 //! The first picks of a branch, as a prefix.
 ghost use Rattle.std.specs.Prelude.{◌≡◌, ◌≤◌, length, take, MatchOption};
 ghost use Rattle.uhura_choice.specs.Branch.{IsBranch, IsPrefix};
+ghost use Rattle.std.specs.Bool.{Decides};
+ghost use Rattle.uhura_choice.specs.Order.{IsFrontOf};
 ghost use Rattle.uhura_choice.specs.Walk.{IsFirstFrom};
 ghost use Rattle.uhura_shows.specs.Behind.{IsPrefixOfFirst};
 
@@ -27,14 +29,27 @@ pub fn prefix_of_first(plan: &Plan, picks: &[Pick], branch: &Branch) -> Option<P
     ensures { MatchOption result (IsFirstFrom plan.now.choices picks.now branch.now → ⊥)
         (IsPrefixOfFirst plan.now.choices picks.now branch.now) }
 {
-    let entries = branch.entries();
-    if !entries.starts_with(picks) {
+    if !begins(picks, branch.entries()) {
         return None;
     }
     let first = first_branch_with(plan, front_of(plan, branch, picks.len()));
-    if first.entries() == entries {
+    if is_same(first.entries(), branch.entries()) {
         Some(front_of(plan, branch, picks.len()))
     } else {
         None
     }
+}
+
+/// Whether the first picks begin the others.
+fn begins(front: &[Pick], picks: &[Pick]) -> bool
+    ensures { Decides result (IsFrontOf front.now picks.now) }
+{
+    front.len() <= picks.len() && is_same(&picks[..front.len()], front)
+}
+
+/// Whether the picks are the same.
+fn is_same(one: &[Pick], other: &[Pick]) -> bool
+    ensures { Decides result (one.now ≡ other.now) }
+{
+    one == other
 }
