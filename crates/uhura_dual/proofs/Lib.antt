@@ -9,3 +9,4 @@ pub mod Settling
 pub mod ReadOff
 mod Pairs
 mod ReadUnits
+mod AroundDrive

@@ -1,5 +1,5 @@
--- The proposal that is read off potentials of the nodes: they pass the bounds of some sides, and these are loosened or
--- narrowed by as much.
+-- The proposal that is read off potentials of the nodes: they pass the bounds of some sides, and these are loosened
+-- or narrowed by as much.
 use Rattle.std.specs.Prelude.{◌≡◌, ℕ, ◌+◌, ◌≤ℤ◌, ℤ, pos, neg_ℤ, nat_lt, IsFalse, if◌then◌else◌, List, [], ◌∷◌, ◌++◌, length, map}
 use Rattle.std.specs.List.{All, flat_map, range_with_len}
 use Rattle.uhura_plan.specs.declared.key.Side.TheVariants.{Lower, Upper}

@@ -1,5 +1,5 @@
--- The edges of a state whose items are active where some first picks of a branch are made: they are settled, since they
--- are active in each branch that begins so.
+-- The edges of a state whose items are active where some first picks of a branch are made: they are settled, since
+-- they are active in each branch that begins so.
 use Rattle.std.specs.Prelude.{◌≡◌, ℕ, zero, suc, ◌-◌, ◌/◌, ◌%◌, ◌≤◌, nat_lt, ℤ, pos, ◌+ℤ◌, IsTrue, IsFalse, if◌then◌else◌, List, Option, None, Some}
 use Rattle.uhura_plan.specs.declared.key.Side.TheVariants.{Lower, Upper}
 use Rattle.uhura_plan.specs.declared.key.Item.{Item}

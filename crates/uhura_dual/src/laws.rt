@@ -95,8 +95,8 @@ pub fn tables_have_the_settled_edges()
         AreAllSettled state picks (chosen_edges table chosen) }
 {}
 
-/// An optimal circulation over all settled edges of a branch is worth, with the picks of the branch, what the proposal
-/// costs that takes its potentials, where these keep each edge that isn't loose.
+/// An optimal circulation over all settled edges of a branch is worth, with the picks of the branch, what the
+/// proposal costs that takes its potentials, where these keep each edge that isn't loose.
 pub fn optimal_circulations_are_worth_their_proposal()
     ensures { (state : State) (branch : List Pick) (edges : Edges) (units : Units)
         (potentials : ℕ → ℤ) → IsSound state.plan → AreAllSettled state branch edges →

@@ -18,8 +18,8 @@ use uhura_worst::Loosening;
 use uhura_worst::constraint::Constraint;
 
 /// By how much the potentials of the nodes pass the stated bound of each side that is active in the branch: the sides
-/// of requirements in the plan's order and then those of durations, of each the lower one first. Only the answer takes
-/// memory.
+/// of requirements in the plan's order and then those of durations, of each the lower one first, in whole units. The
+/// potentials are within 1,536,000,000,000. Only the answer takes memory.
 pub fn loosening(
     alloc: Global,
     plan: &Plan,
