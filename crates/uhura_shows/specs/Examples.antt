@@ -9,7 +9,8 @@ use Rattle.uhura_choice.specs.declared.prefix.Pick.{Pick}
 use Rattle.uhura_choice.specs.declared.prefix.Pick.TheVariants.{Alternative}
 use Rattle.uhura_veto.specs.declared.veto.Veto.TheVariants.{Deny, Cap}
 use Rattle.uhura_veto.specs.State.{State}
-use Rattle.uhura_worst.specs.Examples.{requirement_side, duration_side, unbounded, bounded, near, far, side_choice, first_at_zero}
+use Rattle.uhura_worst.specs.Examples.{requirement_side, duration_side, unbounded, bounded}
+use Rattle.uhura_worst.specs.Examples.{near, far, side_choice, first_at_zero}
 use Rattle.uhura_worst.specs.Units.{side_units}
 use Rattle.uhura_worst.specs.Proposal.{Proposal}
 use Rattle.uhura_shows.specs.Leaf.{Denied, Flow, Stuck, LeafShown}
@@ -39,15 +40,15 @@ clash_by loosened firm =
 abbrev pub both_sides : List (EdgeKey × ℕ) → List LeafShown
 both_sides pairs = flow left [] ∷ flow right pairs ∷ []
 
--- The drive with dinner capped at 4 minutes later has one leaf: units on dinner as stated, on dinner at its cap, and on
--- the drive.
+-- The drive with dinner capped at 4 minutes later has one leaf: units on dinner as stated, on dinner at its cap, and
+-- on the drive.
 abbrev pub drive_leaf : ℕ → ℕ → ℕ → LeafShown
 drive_leaf stated capped cut = flow []
     ((Loose (requirement_side 0 Upper), stated) ∷ (Firm (requirement_side 0 Upper), capped)
     ∷ (Loose (duration_side 0 Upper), cut) ∷ [])
 
--- With dinner later at 2 a minute for 4 minutes and at 5 past them: units on dinner as stated, on its steep edge, and on
--- the drive.
+-- With dinner later at 2 a minute for 4 minutes and at 5 past them: units on dinner as stated, on its steep edge, and
+-- on the drive.
 abbrev pub rising_leaf : ℕ → ℕ → ℕ → LeafShown
 rising_leaf stated past cut = flow []
     ((Loose (requirement_side 0 Upper), stated) ∷ (Steep (requirement_side 0 Upper), past)
@@ -102,7 +103,10 @@ free_choice = record {
 }
 
 abbrev pub too_far : Requirement
-too_far = record far { lower = bounded (pos 20); guard = record { choice = 0; alternative = 0 } ∷ [] }
+too_far = record far {
+  lower = bounded (pos 20);
+  guard = record { choice = 0; alternative = 0 } ∷ [];
+}
 
 abbrev pub cheap_or_dear : State
 cheap_or_dear = record {

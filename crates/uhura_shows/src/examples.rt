@@ -1,5 +1,5 @@
-//! The definitions tried on leaves of worked plans: each contract is a fact about leaves of `specs/Examples.antt`, and
-//! the bodies are empty.
+//! The definitions tried on leaves of worked plans: each contract is a fact about leaves of `specs/Examples.antt`,
+//! and the bodies are empty.
 ghost use Rattle.std.specs.Prelude.{◌≡◌, ◌*◌, None, Some, [], ◌∷◌};
 ghost use Rattle.uhura_choice.specs.Branch.{IsEarlier};
 ghost use Rattle.uhura_plan.specs.declared.key.Side.TheVariants.{Lower, Upper};
@@ -13,8 +13,8 @@ ghost use Rattle.uhura_shows.specs.Examples.{denied, flow, stuck, left, right, c
 ghost use Rattle.uhura_shows.specs.Examples.{drive_leaf, rising_leaf, both_denied, clashing};
 ghost use Rattle.uhura_shows.specs.Examples.{cheap_or_dear, dear_x, dear_y, cheap_leaf, right_in_halves};
 
-/// The leaves of two sides that both cost 5 show that the left one does, and no more than that. They don't show the right
-/// one, since the left one comes before it and costs as little.
+/// The leaves of two sides that both cost 5 show that the left one does, and no more than that. They don't show the
+/// right one, since the left one comes before it and costs as little.
 pub fn two_leaves_show_the_first_branch()
     ensures shown { Shows two_sides (Some (left, 5)) (both_sides (clash_by 1 1)) }
     ensures no_more { Shows two_sides (Some (left, 6)) (both_sides (clash_by 1 1)) → ⊥ }
@@ -32,8 +32,8 @@ pub fn each_branch_has_one_leaf()
         flow left [] ∷ []) → ⊥ }
 {}
 
-/// Units pass no capacity, are balanced at each node, name no edge twice, and are on edges that are settled active in the
-/// prefix.
+/// Units pass no capacity, are balanced at each node, name no edge twice, and are on edges that are settled active in
+/// the prefix.
 pub fn units_are_a_circulation_of_settled_edges()
     ensures above { Shows two_sides (Some (left, 5)) (both_sides (clash_by 2 2)) → ⊥ }
     ensures unbalanced { Shows two_sides (Some (left, 5)) (both_sides (clash_by 1 2)) → ⊥ }
@@ -70,8 +70,8 @@ pub fn denials_show_that_nothing_is_allowed()
     ensures missing { Shows both_denied None (denied left 0 ∷ denied right 3 ∷ []) → ⊥ }
 {}
 
-/// Two bounds that clash make a closed walk whose bounds sum below 0. A walk has edges and closes, and units show nothing
-/// where there is no proposal.
+/// Two bounds that clash make a closed walk whose bounds sum below 0. A walk has edges and closes, and units show
+/// nothing where there is no proposal.
 pub fn clash_shows_that_nothing_is_allowed()
     ensures shown { Shows clashing None (stuck [] (Firm (requirement_side 0 Lower)
         ∷ Firm (requirement_side 1 Upper) ∷ []) ∷ []) }

@@ -1,5 +1,5 @@
-//! What leaves show of the proposals that are allowed. Each contract is a law over the definitions, and the bodies are
-//! empty.
+//! What leaves show of the proposals that are allowed, and how prefixes are known to cover the branches. Each
+//! contract is a law over the definitions, and the bodies are empty.
 ghost use Rattle.std.specs.Prelude.{◌≡◌, ℕ, List, [], ◌∷◌, ◌++◌, Option, Some, None, Contains, ◌↔◌, ◌⊎◌};
 ghost use Rattle.uhura_plan.specs.Lists.{Lists};
 ghost use Rattle.uhura_plan.specs.Sound.{IsSound};
@@ -13,7 +13,7 @@ ghost use Rattle.uhura_veto.specs.State.{State};
 ghost use Rattle.uhura_worst.specs.Proposal.{Proposal};
 ghost use Rattle.uhura_worst.specs.Allowed.{Allowed};
 ghost use Rattle.uhura_worst.specs.Cost.{cost};
-ghost use Rattle.uhura_worst.specs.Best.{IsCheapest, IsFirst, AllowsNothing};
+ghost use Rattle.uhura_worst.specs.Best.{IsCheapest, IsFirst};
 ghost use Rattle.uhura_shows.specs.Leaf.{LeafShown};
 ghost use Rattle.uhura_shows.specs.Cover.{IsCover, Covers};
 ghost use Rattle.uhura_shows.specs.Behind.{IsBehind, CoversUpTo, ComesBefore};
@@ -36,10 +36,10 @@ pub fn leaves_show_that_nothing_is_allowed()
         IsSound state.plan → Shows state None leaves → Allowed state k q → ⊥ }
 {}
 
-/// Covers are joined to covers. Nothing covers nothing, and a prefix covers itself; covers of tops that come after one
-/// another are one cover of them all; what covers the children of a prefix covers the prefix; what covers a prefix may
-/// stand in its place, and the prefix in theirs; and what covers the empty prefix, which begins every branch, is a cover
-/// of the branches.
+/// Covers are joined to covers. Nothing covers nothing, and a prefix covers itself; covers of tops that come after
+/// one another are one cover of them all; what covers the children of a prefix covers the prefix; what covers a
+/// prefix may stand in its place, and the prefix in theirs; and what covers the empty prefix, which begins every
+/// branch, is a cover of the branches.
 pub fn covers_are_joined()
     ensures nothing { (choices : List Choice) → Covers choices [] [] }
     ensures itself { (choices : List Choice) (prefix : List Pick) → IsPrefix choices prefix →
@@ -65,9 +65,10 @@ pub fn covers_are_joined()
         Covers choices ([] ∷ []) prefixes ↔ IsCover choices prefixes }
 {}
 
-/// A walk over prefixes shows whether they are a cover. It begins with none and the first branch; a prefix whose first
-/// branch is the next one leads to the branch behind it; and with no next branch the prefixes are a cover. Prefixes are
-/// one only so: where they aren't yet, the next of them is such a prefix, and where they are, there is none.
+/// A walk over prefixes shows whether they are a cover. It begins with none and the first branch; a prefix whose
+/// first branch is the next one leads to the branch behind it; and with no next branch the prefixes are a cover.
+/// Prefixes are one only so: where they aren't yet, the next of them is such a prefix, and where they are, there is
+/// none.
 pub fn covers_are_walked()
     ensures begins { (choices : List Choice) (first : List Pick) → IsFirstBranch choices first →
         CoversUpTo choices [] (Some first) }
@@ -87,8 +88,8 @@ pub fn covers_are_walked()
         CoversUpTo choices so_far None → ⊥ }
 {}
 
-/// A walk over branches may pass all those of a prefix at once: each branch before the one behind the prefix, and each
-/// at all where there is none, comes before the branch at which it stood, or has the prefix.
+/// A walk over branches may pass all those of a prefix at once: each branch before the one behind the prefix, and
+/// each at all where there is none, comes before the branch at which it stood, or has the prefix.
 pub fn branches_of_a_prefix_are_passed()
     ensures { (choices : List Choice) (prefix branch : List Pick) (later : Option (List Pick))
         (other : List Pick) → IsBranch choices branch → IsFrontOf prefix branch →

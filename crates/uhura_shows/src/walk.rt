@@ -1,5 +1,5 @@
-//! The branch behind all those that a prefix begins. It stands here until it moves down beside `next_branch`, which is
-//! then this for a whole branch.
+//! The branch behind all those that a prefix begins. It stands here until it moves down beside `next_branch`, which
+//! is then this for a whole branch.
 ghost use Rattle.uhura_choice.specs.Branch.{IsPrefix};
 ghost use Rattle.uhura_choice.specs.Walk.{IsFirstFrom};
 ghost use Rattle.uhura_shows.specs.Behind.{IsBehind, LeadsBehind, child_index};
