@@ -1,5 +1,5 @@
 -- What leaves nothing allowed in the branches that begin with some picks.
-use Rattle.std.proofs.Common.{◌≡◌, ℕ, pos, ◌≤ℤ◌, Bool, true, false, List, [], ◌∷◌, None, Some, IsTrue, Contains, refl, sym, ap, subst, ◌∙◌, arith, true≢false}
+use Rattle.std.proofs.Common.{ℤ, ◌≡◌, ℕ, pos, ◌≤ℤ◌, Bool, true, false, List, [], ◌∷◌, None, Some, IsTrue, Contains, refl, sym, ap, subst, ◌∙◌, arith, true≢false}
 use Rattle.std.specs.Prelude.{◌<ℤ◌, cond}
 use Rattle.std.specs.List.{All}
 use Rattle.std.proofs.lemmas.Int.{ints}
@@ -13,7 +13,7 @@ use Rattle.uhura_choice.specs.Order.{IsFrontOf}
 use Rattle.uhura_net.specs.declared.edge.Edge.{Edge}
 use Rattle.uhura_net.specs.declared.place.Place.{Place}
 use Rattle.uhura_net.specs.Place.{is_loose}
-use Rattle.uhura_net.specs.Edges.{Edges, KeepsAt}
+use Rattle.uhura_net.specs.Edges.{Edges, KeepsAt, AreKeptAt}
 use Rattle.uhura_net.specs.Walk.{IsClosedWalk, bounds_of, IsNegativeWalk}
 use Rattle.uhura_net.specs.Optimal.{firm_edges}
 use Rattle.uhura_net.proofs.Rows.{is_loose-place_number}
@@ -24,7 +24,7 @@ use Rattle.uhura_veto.specs.Denial.{is_denied}
 use Rattle.uhura_worst.specs.Edges.{item_of, is_active_edge}
 use Rattle.uhura_worst.specs.Proposal.{Proposal}
 use Rattle.uhura_worst.specs.Allowed.{Allowed}
-use Rattle.uhura_worst.specs.WorstCase.{extreme_times}
+use Rattle.uhura_worst.specs.WorstCase.{extreme_times, KeepsFirmEdges}
 use Rattle.uhura_worst.proofs.FirmEdges.{allowed-keeps}
 use Rattle.uhura_dual.specs.Settled.{IsSettled, AreSettled, IsSettledFirm}
 use Rattle.uhura_dual.proofs.Beginnings.{active-more, denied-more, denied-by}
@@ -74,6 +74,12 @@ firm-settled state picks edges place edge settled is = by (is_loose place) refl 
           firm = sym (is_loose-place_number s.key s.stands.0) ∙ ap is_loose s.stands.1 ∙ firm;
           active = s.active;
         }
+
+-- so what keeps the firm edges of the state keeps those
+pub settled-kept : (state : State) (picks : List Pick) (edges : Edges) (k : ℕ) (times : ℕ → ℤ) → AreSettled state picks edges → KeepsFirmEdges state k picks times → AreKeptAt k (firm_edges edges) times
+settled-kept state picks edges k times settled keeps place edge is =
+    let firm : IsSettledFirm state picks edge = firm-settled state picks edges place edge settled is in
+    keeps firm.key edge firm.there firm.firm firm.active
 
 pub walk-bars_at : (state : State) (picks : List Pick) (edges : Edges) (places : List Place) (k : ℕ) (q : Proposal) → IsSound state.plan → AreSettled state picks edges → IsNegativeWalk (firm_edges edges) places →
     Allowed state k q → IsFrontOf picks q.branch → ⊥

@@ -12,7 +12,7 @@ ghost use Rattle.uhura_net.specs.declared.edge.Edge.{Edge};
 ghost use Rattle.uhura_net.specs.declared.place.Place.{Place};
 ghost use Rattle.uhura_net.specs.declared.place.TheConstants.{PLACES};
 ghost use Rattle.uhura_net.specs.Place.{place_number, HasPlace};
-ghost use Rattle.uhura_net.specs.Edges.{Edges, AreKept, chosen_edges};
+ghost use Rattle.uhura_net.specs.Edges.{Edges, AreKept, AreKeptAt, chosen_edges};
 ghost use Rattle.uhura_net.specs.Walk.{IsClosedWalk, bounds_of, IsNegativeWalk};
 ghost use Rattle.uhura_net.specs.Circulation.{Units, IsCirculation};
 ghost use Rattle.uhura_net.specs.Optimal.{IsOptimal, firm_edges};
@@ -77,13 +77,17 @@ pub fn each_place_has_its_edge()
 {}
 
 /// All settled edges are such, and where times keep those of them that aren't loose, they keep each edge of the state
-/// that is there, active and not loose.
+/// that is there, active and not loose. And where they keep these, they keep settled edges that aren't loose, however
+/// few, at every scale.
 pub fn settled_edges_are_those_of_the_plan()
     ensures settled { (state : State) (picks : List Pick) (edges : Edges) →
         AreAllSettled state picks edges → AreSettled state picks edges }
     ensures kept { (state : State) (picks : List Pick) (edges : Edges) (times : ℕ → ℤ) →
         IsSound state.plan → AreAllSettled state picks edges → AreKept (firm_edges edges) times →
         KeepsFirmEdges state 1 picks times }
+    ensures among { (state : State) (picks : List Pick) (edges : Edges) (k : ℕ) (times : ℕ → ℤ) →
+        AreSettled state picks edges → KeepsFirmEdges state k picks times →
+        AreKeptAt k (firm_edges edges) times }
 {}
 
 /// In a table of the edges of a state those at the places of active edges are the settled ones.
