@@ -11,9 +11,10 @@ use Rattle.uhura_choice.specs.Children.{children, HasOneChild}
 use Rattle.uhura_choice.proofs.Earlier.{earlier-irreflexive}
 use Rattle.uhura_choice.proofs.Prefixes.{HaveAlternatives}
 use Rattle.uhura_choice.proofs.Extensions.{are-children, one-child}
+use Rattle.uhura_worst.proofs.SoundItems.{Contains-at}
 use Rattle.uhura_shows.specs.Cover.{IsBegunByOne, IsCover, IsBegunIn, Covers}
 use Rattle.uhura_shows.proofs.Behind.{earlier-more}
-use Rattle.uhura_shows.proofs.Lists.{All-left, All-right, pairs-head, pairs-tail, pairs-left, pairs-right, pairs-across, pairs-append, contains-place, place-contains, pairs-places}
+use Rattle.uhura_shows.proofs.Lists.{All-left, All-right, pairs-head, pairs-tail, pairs-left, pairs-right, pairs-across, pairs-append, contains-place, pairs-places}
 
 -- what begins something that begins a list begins the list
 pub front-trans : (one other picks : List Pick) → IsFrontOf one other → IsFrontOf other picks → IsFrontOf one picks
@@ -157,7 +158,7 @@ begun-one_place prefixes branch order begun = record {
     only other front there begins (inr (inr after)) = absurd (apart begun.prefix front branch after begun.begins begins)
 
 pub one-begun : (prefixes : List (List Pick)) (branch : List Pick) → IsBegunByOne prefixes branch → IsBegunIn prefixes branch
-one-begun prefixes branch one = record { prefix = one.prefix; contained = place-contains prefixes one.place one.prefix one.there; begins = one.begins }
+one-begun prefixes branch one = record { prefix = one.prefix; contained = Contains-at prefixes one.place one.prefix one.there; begins = one.begins }
 
 pub covers-all : (cs : List Choice) (prefixes : List (List Pick)) → Covers cs ([] ∷ []) prefixes → IsCover cs prefixes
 covers-all cs prefixes covers = record {

@@ -27,14 +27,14 @@ use Rattle.uhura_worst.proofs.SoundItems.{Contains-at}
 use Rattle.uhura_dual.specs.Settled.{AreSettled, IsSettledFirm, worth_with}
 use Rattle.uhura_dual.proofs.Beginnings.{denied-by}
 use Rattle.uhura_dual.proofs.Barred.{denied-bars, walk-bars}
+use Rattle.uhura_dual.proofs.Settling.{edge-placed}
 use Rattle.uhura_dual.proofs.Duality.{dual-bound}
 use Rattle.uhura_shows.specs.Leaf.{LeafReason, Denied, Flow, Stuck, LeafShown, prefixes_of}
 use Rattle.uhura_shows.specs.Cover.{IsBegunByOne}
 use Rattle.uhura_shows.specs.Carried.{keyed_edge, AreSettledKeys, IsKeyedCirculation}
 use Rattle.uhura_shows.specs.Shows.{is_denied_by, IsStuckBy, shown_cost, IsShownBy, Shows}
 use Rattle.uhura_shows.proofs.Behind.{earlier-begun}
-use Rattle.uhura_shows.proofs.Lists.{All-from_map, place-contains}
-use Rattle.uhura_shows.proofs.Placed.{edge-placed}
+use Rattle.uhura_shows.proofs.Lists.{All-from_map}
 use Rattle.uhura_shows.proofs.Pairs.{pair_units, pair_edges, pair_edges-pair, IsOfPair, pairs-placed, pairs-list, value-pairs, circulation-at}
 
 -- where a denial has all its literals picked in a prefix, nothing is allowed in the branches that the prefix begins
@@ -43,7 +43,7 @@ denied-allows_nothing state prefix veto k q is begins allowed = by (slice_get st
   where
     by : (o : Option Veto) → slice_get state.vetoes veto ≡ o → IsTrue (option_map_or (denies prefix) o false) → ⊥
     by None there is = true≢false (sym is)
-    by (Some v) there is = denied-bars state prefix k q (denied-by state.vetoes v prefix (place-contains state.vetoes veto v there) is) allowed begins
+    by (Some v) there is = denied-bars state prefix k q (denied-by state.vetoes v prefix (Contains-at state.vetoes veto v there) is) allowed begins
 
 -- an edge that is there, settled active in a prefix and not loose is a firm one there
 firm-there : (state : State) (prefix : List Pick) (key : EdgeKey) (o : Option Edge) → edge_of state key ≡ o → IsSome o → IsFalse (is_loose_key key) →
@@ -65,7 +65,7 @@ pairs-settled state prefix pairs sound settled place edge is =
     let of : IsOfPair state pairs place edge = pair_edges-pair state pairs place edge is in
     record {
       key = of.pair.0;
-      stands = (edge-placed state sound of.pair.0 edge of.is, of.stands);
+      stands = (edge-placed state of.pair.0 edge sound of.is, of.stands);
       there = of.is;
       active = active of.pair of.contained;
     }

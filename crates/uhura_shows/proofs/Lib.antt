@@ -7,6 +7,5 @@ pub mod Lists
 pub mod Merging
 pub mod Pairs
 pub mod Passing
-pub mod Placed
 pub mod Sides
 pub mod SoundSides

@@ -35,9 +35,6 @@ pairs-append R (x ∷ xs) ys one other across =
 pub contains-place : {X : Type 0} (xs : List X) (x : X) (contained : Contains xs x) → slice_get xs contained.0 ≡ Some x
 contains-place xs x (k, below, is) = slice_get-get_or xs k x below ∙ ap (λ y. Some y) is
 
-pub place-contains : {X : Type 0} (xs : List X) (k : ℕ) (x : X) → slice_get xs k ≡ Some x → Contains xs x
-place-contains xs k x there = (k, slice_get_within xs k x there, get_or_from_slice_get xs k x x there)
-
 -- two places of a list in all of whose pairs a relation holds are one, or it holds of their elements
 pub pairs-places : {X : Type 0} (R : X → X → Type 0) (xs : List X) (i j : ℕ) (x y : X) → AllPairs R xs → slice_get xs i ≡ Some x → slice_get xs j ≡ Some y → (i ≡ j) ⊎ (R x y ⊎ R y x)
 pairs-places R xs i j x y pairs here there =

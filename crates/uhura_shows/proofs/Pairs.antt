@@ -1,5 +1,5 @@
 -- Units that are given by a list of pairs, read as units at places.
-use Rattle.std.proofs.Common.{rules, ◌≡◌, ◌≢◌, ℕ, zero, suc, ◌+◌, ◌<◌, ◌≤◌, Bool, true, false, true≢false, cond, eqb, List, [], ◌∷◌, None, Some, Option, IsSome, unwrap_or, get_or, refl, sym, ap, ◌∙◌, subst, inl, inr, arith, Contains}
+use Rattle.std.proofs.Common.{◌≡◌, ◌≢◌, ℕ, zero, suc, ◌+◌, ◌<◌, ◌≤◌, Bool, true, false, true≢false, cond, eqb, List, [], ◌∷◌, None, Some, Option, IsSome, unwrap_or, get_or, refl, sym, ap, ◌∙◌, subst, inl, inr, arith, Contains}
 use Rattle.std.specs.Prelude.{ℤ, pos, neg_ℤ, ◌+ℤ◌, ◌*ℤ◌, sum_by, All, AllPairs}
 use Rattle.std.proofs.lemmas.Int.{ints}
 use Rattle.std.proofs.lemmas.Bool.{cases_eq, eq-eqb, ne_eqb}
@@ -19,15 +19,14 @@ use Rattle.uhura_net.proofs.Scaled.{scaled-zero}
 use Rattle.uhura_veto.specs.State.{State}
 use Rattle.uhura_worst.specs.Edges.{edge_of}
 use Rattle.uhura_shows.proofs.Lists.{pairs-head, pairs-tail}
-use Rattle.uhura_shows.proofs.Placed.{edge-placed}
+use Rattle.uhura_dual.specs.Settled.{key_at}
+use Rattle.uhura_dual.proofs.KeysAt.{key_at-place_number, place_inside}
+use Rattle.uhura_dual.proofs.Settling.{edge-placed}
 use Rattle.uhura_shows.specs.Carried.{keyed_edge, units_into, units_out_of, IsCarried, IsKeyedCirculation, weighed_pairs, value_of_pairs}
 
--- different edges stand at different places, each of them at one of the places
+-- different edges stand at different places
 one_to_one : (a b : EdgeKey) → HasPlace a → HasPlace b → place_number a ≡ place_number b → a ≡ b
-one_to_one a b placed other same = search rules
-
-inside : (key : EdgeKey) → HasPlace key → place_number key < PLACES
-inside key placed = search rules
+one_to_one a b placed other same = sym (key_at-place_number a placed) ∙ ap key_at same ∙ key_at-place_number b other
 
 -- equal terms have equal sums
 sum_by-same : {X : Type 0} (f g : X → ℕ) (xs : List X) → All (λ x. f x ≡ g x) xs → sum_by f xs ≡ sum_by g xs
@@ -143,7 +142,7 @@ sum-at g (pair ∷ pairs) none are =
     let here : g at (pair_units (pair ∷ pairs) at) ≡ g at pair.1 + g at (pair_units pairs at) =
     omega (arith, none at, ap (g at) (first-absent pair pairs are), ap (g at) (pair_units-here pair pairs)) in
     let more = sum_below-but_one PLACES at (g at pair.1) (λ place. g place (pair_units (pair ∷ pairs) place)) (λ place. g place (pair_units pairs place))
-    (inside pair.0 (first-placed pair pairs are)) here (λ place apart. ap (g place) (pair_units-elsewhere pair pairs place apart)) in
+    (place_inside pair.0 (first-placed pair pairs are)) here (λ place apart. ap (g place) (pair_units-elsewhere pair pairs place apart)) in
     omega (arith, rest, more, sum_by-cons (λ (p : EdgeKey × ℕ). g (place_number p.0) p.1) pair pairs)
 
 -- and so are integers
@@ -157,7 +156,7 @@ weighed-at weight (pair ∷ pairs) are =
     let here : pos (pair_units (pair ∷ pairs) at) *ℤ weight at ≡ (pos pair.1 *ℤ weight at) +ℤ (pos (pair_units pairs at) *ℤ weight at) =
     omega (arith, ints, scaled-zero (weight at), ap (λ n. pos n *ℤ weight at) (first-absent pair pairs are), ap (λ n. pos n *ℤ weight at) (pair_units-here pair pairs)) in
     let more = int_sum_below-but_one PLACES at (pos pair.1 *ℤ weight at) (λ place. pos (pair_units (pair ∷ pairs) place) *ℤ weight place)
-    (λ place. pos (pair_units pairs place) *ℤ weight place) (inside pair.0 (first-placed pair pairs are)) here
+    (λ place. pos (pair_units pairs place) *ℤ weight place) (place_inside pair.0 (first-placed pair pairs are)) here
     (λ place apart. ap (λ n. pos n *ℤ weight place) (pair_units-elsewhere pair pairs place apart)) in
     omega (arith, ints, rest, more)
 
@@ -274,7 +273,7 @@ pairs-placed state pairs sound keyed = record {
   where
     placed : (pair : EdgeKey × ℕ) (o : Option Edge) → edge_of state pair.0 ≡ o → IsSome o → HasPlace pair.0
     placed pair None is some = absurd (true≢false (sym some))
-    placed pair (Some edge) is some = edge-placed state sound pair.0 edge is
+    placed pair (Some edge) is some = edge-placed state pair.0 edge sound is
 
 -- no place has more units than its edge can carry
 pair_units-within : (state : State) (pairs : List (EdgeKey × ℕ)) → All (IsCarried state) pairs → (place : ℕ) → pair_units pairs place ≤ (edge_at (pair_edges state pairs) place).capacity
