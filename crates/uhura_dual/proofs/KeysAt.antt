@@ -84,7 +84,7 @@ key_at-place_number (Order d) placed = in_duration d 4 placed (omega arith)
 key_at-place_number (Steep key) placed = in_pair key.item key.side placed
 
 -- it stands at one of the places
-place_inside : (key : EdgeKey) → HasPlace key → place_number key < PLACES
+pub place_inside : (key : EdgeKey) → HasPlace key → place_number key < PLACES
 place_inside key placed = search rules
 
 -- so the settled edges stand at their places

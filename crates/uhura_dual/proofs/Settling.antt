@@ -69,10 +69,13 @@ has_place (Firm key) placed = placed
 has_place (Order d) placed = placed
 has_place (Steep key) placed = placed
 
+pub edge-placed : (state : State) (key : EdgeKey) (edge : Edge) → IsSound state.plan → edge_of state key ≡ Some edge → HasPlace key
+edge-placed state key edge sound there = has_place key (item-placed state key edge (item_of key) sound there)
+
 -- so where times keep the settled edges that aren't loose, they keep the firm edges of the state
 pub firm-among : (state : State) (picks : List Pick) (edges : Edges) (times : ℕ → ℤ) → IsSound state.plan → AreAllSettled state picks edges → AreKept (firm_edges edges) times → KeepsFirmEdges state 1 picks times
 firm-among state picks edges times sound all kept key edge there firm active =
-    let placed : HasPlace key = has_place key (item-placed state key edge (item_of key) sound there) in
+    let placed : HasPlace key = edge-placed state key edge sound there in
     let is : firm_edges edges (place_number key) ≡ Some edge =
     ap (λ (b : Bool). cond b None (edges (place_number key))) (is_loose-place_number key placed ∙ firm)
     ∙ all.each key placed ∙ ap (λ (b : Bool). if b then edge_of state key else None) active ∙ there in
