@@ -1,0 +1,4 @@
+pub mod Ways
+pub mod Walk
+pub mod Found
+pub mod Scratch
