@@ -1,1 +1,5 @@
+mod Backward
+mod Noting
+mod Putting
+mod Reaching
 mod Turns

@@ -31,13 +31,17 @@ pub record IsPathOf (arcs : Arcs) (from : ℕ) (path : Path) (to cost : ℕ) : T
   pub leads : IsPath arcs from path.places.now path.backward.now to cost
   pub least : IsLeastRoom arcs path.places.now path.backward.now path.least
 
--- the label of a node
-abbrev pub label_at : List Label → ℕ → Label
-label_at labels node = slice_index_or labels node (record {
+-- a label that counts for no search
+abbrev pub no_label : Label
+no_label = record {
   mark = 0;
   distance = 0;
   step = record { place = record { 0 = 0 }; backward = false };
-})
+}
+
+-- the label of a node
+abbrev pub label_at : List Label → ℕ → Label
+label_at labels node = slice_index_or labels node no_label
 
 -- The search found these distances: of each reached node, which are listed once each, the one in its label, and of
 -- all others the cost that was found.

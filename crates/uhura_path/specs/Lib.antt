@@ -2,3 +2,5 @@ pub mod Ways
 pub mod Walk
 pub mod Found
 pub mod Scratch
+pub mod Quest
+pub mod Search

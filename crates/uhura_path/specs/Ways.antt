@@ -57,6 +57,12 @@ arc_of potentials edge = record {
 abbrev pub arcs_of : Walkable → (ℕ → ℤ) → Arcs
 arcs_of edges potentials place backward = option_map (arc_of potentials) (edges place backward)
 
+-- an arc between two nodes whose cost keeps to the limit
+pub record IsSoundArc (arc : Arc) : Type 0 where
+  pub starts : arc.from < NODES
+  pub ends : arc.to < NODES
+  pub few : arc.cost ≤ MOST_COST
+
 -- an arc that can't be walked
 abbrev pub no_arc : Arc
 no_arc = record { from = 0; to = 0; cost = 0; room = 0 }

@@ -5,8 +5,12 @@
 #![tactic(auto)]
 
 mod found;
+mod front;
 mod label;
+mod labelling;
 mod lifting;
+mod quest;
+mod relaxing;
 mod scratch;
 mod searching;
 mod task;
