@@ -3,3 +3,5 @@ mod Noting
 mod Putting
 mod Reaching
 mod Turns
+mod Ends
+mod Listwalk

@@ -4,6 +4,7 @@
 //! further than it has to. It works at the nodes and edges that it reaches alone.
 #![tactic(auto)]
 
+mod following;
 mod found;
 mod front;
 mod label;

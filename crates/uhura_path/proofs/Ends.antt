@@ -1,0 +1,49 @@
+-- Arcs lead to the nodes where their places are listed.
+use Rattle.std.proofs.Common.{◌≡◌, ℕ, ◌≤◌, ℤ, nat_le, Bool, true, false, if◌then◌else◌, Option, None, Some, unwrap_or, sym, ap, ◌∙◌, inl, inr, arith}
+use Rattle.std.specs.Option.{option_map}
+use Rattle.std.proofs.lemmas.Bool.{cases_Bool, leb-true}
+use Rattle.uhura_net.specs.declared.edge.Edge.{Edge}
+use Rattle.uhura_net.specs.declared.edge.End.{End}
+use Rattle.uhura_net.specs.declared.edge.End.TheVariants.{From, To}
+use Rattle.uhura_net.specs.Place.{is_loose}
+use Rattle.uhura_net.specs.Edges.{Edges, no_edge, edge_at}
+use Rattle.uhura_net.specs.Circulation.{edges_of, units_of}
+use Rattle.uhura_net.specs.Residual.{residual_edge}
+use Rattle.uhura_net.specs.Optimal.{firm_edges}
+use Rattle.uhura_net.specs.Lists.{Listing, node_of, end_node, AreListed}
+use Rattle.uhura_net.specs.Net.{NetState, IsNet}
+use Rattle.uhura_path.specs.declared.ways.Ways.{Ways}
+use Rattle.uhura_path.specs.declared.ways.Ways.TheVariants.{Residual, Firm}
+use Rattle.uhura_path.specs.declared.ways.Arc.{Arc}
+use Rattle.uhura_path.specs.Ways.{Walkable, walkable, roomy_edge, arc_of, arcs_of}
+
+-- an arc is that of an edge which may be walked
+pub record IsArcOf (edges : Walkable) (potentials : ℕ → ℤ) (place : ℕ) (backward : Bool) (arc : Arc) : Type 0 where
+  pub edge : Edge
+  pub walked : edges place backward ≡ Some edge
+  pub same : arc ≡ arc_of potentials edge
+
+arc_of_option : (potentials : ℕ → ℤ) (edge : Option Edge) (arc : Arc) → option_map (arc_of potentials) edge ≡ Some arc → (found : Edge) × (edge ≡ Some found) × (arc ≡ arc_of potentials found)
+arc_of_option potentials None arc is = absurd (let no : ⊥ = cc in no)
+arc_of_option potentials (Some edge) arc is = let same : arc ≡ arc_of potentials edge = cc in (edge, refl_some edge, same)
+  where
+    refl_some : (e : Edge) → Some e ≡ Some e
+    refl_some e = λ i. Some e
+
+pub IsArcOf-arc : (edges : Walkable) (potentials : ℕ → ℤ) (place : ℕ) (backward : Bool) (arc : Arc) → arcs_of edges potentials place backward ≡ Some arc →
+    IsArcOf edges potentials place backward arc
+IsArcOf-arc edges potentials place backward arc is =
+    let found = arc_of_option potentials (edges place backward) arc is in
+    record { edge = found.0; walked = found.1; same = found.2 }
+
+-- an edge with room is there
+pub record IsRoomy (edge found : Edge) : Type 0 where
+  pub room : 1 ≤ edge.capacity
+  pub same : edge ≡ found
+
+IsRoomy-edge : (edge found : Edge) → roomy_edge edge ≡ Some found → IsRoomy edge found
+IsRoomy-edge edge found is =
+    elim (cases_Bool (nat_le 1 edge.capacity)) [
+      | inl some ↦ let both : Some edge ≡ Some found = rw some at is in record { room = leb-true 1 edge.capacity some; same = cc }
+      | inr none ↦ let never : None ≡ Some found = rw none at is in absurd (let no : ⊥ = cc in no)
+    ]
