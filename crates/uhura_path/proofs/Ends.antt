@@ -1,5 +1,5 @@
 -- Arcs lead to the nodes where their places are listed.
-use Rattle.std.proofs.Common.{◌≡◌, ℕ, ◌≤◌, ℤ, nat_le, Bool, true, false, if◌then◌else◌, Option, None, Some, unwrap_or, sym, ap, ◌∙◌, inl, inr, arith}
+use Rattle.std.proofs.Common.{◌≡◌, ℕ, ◌≤◌, ℤ, nat_le, Bool, true, false, if◌then◌else◌, Option, None, Some, unwrap_or, refl, sym, ap, ◌∙◌, inl, inr, arith}
 use Rattle.std.specs.Option.{option_map}
 use Rattle.std.proofs.lemmas.Bool.{cases_Bool, leb-true}
 use Rattle.uhura_net.specs.declared.edge.Edge.{Edge}
@@ -15,7 +15,7 @@ use Rattle.uhura_net.specs.Net.{NetState, IsNet}
 use Rattle.uhura_path.specs.declared.ways.Ways.{Ways}
 use Rattle.uhura_path.specs.declared.ways.Ways.TheVariants.{Residual, Firm}
 use Rattle.uhura_path.specs.declared.ways.Arc.{Arc}
-use Rattle.uhura_path.specs.Ways.{Walkable, walkable, roomy_edge, arc_of, arcs_of}
+use Rattle.uhura_path.specs.Ways.{Walkable, residual_option, walkable, roomy_edge, arc_of, arcs_of}
 
 -- an arc is that of an edge which may be walked
 pub record IsArcOf (edges : Walkable) (potentials : ℕ → ℤ) (place : ℕ) (backward : Bool) (arc : Arc) : Type 0 where
@@ -25,10 +25,7 @@ pub record IsArcOf (edges : Walkable) (potentials : ℕ → ℤ) (place : ℕ) (
 
 arc_of_option : (potentials : ℕ → ℤ) (edge : Option Edge) (arc : Arc) → option_map (arc_of potentials) edge ≡ Some arc → (found : Edge) × (edge ≡ Some found) × (arc ≡ arc_of potentials found)
 arc_of_option potentials None arc is = absurd (let no : ⊥ = cc in no)
-arc_of_option potentials (Some edge) arc is = let same : arc ≡ arc_of potentials edge = cc in (edge, refl_some edge, same)
-  where
-    refl_some : (e : Edge) → Some e ≡ Some e
-    refl_some e = λ i. Some e
+arc_of_option potentials (Some edge) arc is = let same : arc ≡ arc_of potentials edge = cc in (edge, refl, same)
 
 pub IsArcOf-arc : (edges : Walkable) (potentials : ℕ → ℤ) (place : ℕ) (backward : Bool) (arc : Arc) → arcs_of edges potentials place backward ≡ Some arc →
     IsArcOf edges potentials place backward arc
@@ -47,3 +44,45 @@ IsRoomy-edge edge found is =
       | inl some ↦ let both : Some edge ≡ Some found = rw some at is in record { room = leb-true 1 edge.capacity some; same = cc }
       | inr none ↦ let never : None ≡ Some found = rw none at is in absurd (let no : ⊥ = cc in no)
     ]
+
+-- an edge of which something is left to be walked is there
+pub record IsLeft (edge : Option Edge) (units : ℕ) (backward : Bool) (found : Edge) : Type 0 where
+  pub whole : Edge
+  pub there : edge ≡ Some whole
+  pub roomy : IsRoomy (residual_edge whole units backward) found
+
+pub IsLeft-residual : (edge : Option Edge) (units : ℕ) (backward : Bool) (found : Edge) → residual_option edge units backward ≡ Some found → IsLeft edge units backward found
+IsLeft-residual None units backward found is = absurd (let no : ⊥ = cc in no)
+IsLeft-residual (Some whole) units backward found is = record { whole = whole; there = refl; roomy = IsRoomy-edge (residual_edge whole units backward) found is }
+
+-- an arc that is walked backward leads to the start of its edge
+backward_end : (ways : Ways) (net : NetState) (potentials : ℕ → ℤ) (listing : Listing) → AreListed (edges_of net.edges) From listing → (place : ℕ) (found : Edge) →
+    walkable ways net place true ≡ Some found → found.to ≡ node_of listing place
+backward_end Residual net potentials listing listed place found is =
+    let left = IsLeft-residual (edges_of net.edges place) (units_of net.units place) true found is in
+    sym (listed.each place left.whole left.there ∙ ap (λ (e : Edge). e.to) left.roomy.same)
+backward_end Firm net potentials listing listed place found is = absurd (let no : ⊥ = cc in no)
+
+pub arc_ends-backward : (ways : Ways) (net : NetState) (potentials : ℕ → ℤ) (listing : Listing) → AreListed (edges_of net.edges) From listing → (place : ℕ) (arc : Arc) →
+    arcs_of (walkable ways net) potentials place true ≡ Some arc → arc.to ≡ node_of listing place
+arc_ends-backward ways net potentials listing listed place arc is =
+    let found = IsArcOf-arc (walkable ways net) potentials place true arc is in
+    ap (λ (a : Arc). a.to) found.same ∙ backward_end ways net potentials listing listed place found.edge found.walked
+
+-- and one that is walked forward to its end
+forward_end : (ways : Ways) (net : NetState) (potentials : ℕ → ℤ) (listing : Listing) → AreListed (edges_of net.edges) To listing → (place : ℕ) (found : Edge) →
+    walkable ways net place false ≡ Some found → found.to ≡ node_of listing place
+forward_end Residual net potentials listing listed place found is =
+    let left = IsLeft-residual (edges_of net.edges place) (units_of net.units place) false found is in
+    sym (listed.each place left.whole left.there ∙ ap (λ (e : Edge). e.to) left.roomy.same)
+forward_end Firm net potentials listing listed place found is =
+    elim (cases_Bool (is_loose place)) [
+      | inl loose ↦ let never : None ≡ Some found = rw loose at is in absurd (let no : ⊥ = cc in no)
+      | inr firm ↦ let there : edges_of net.edges place ≡ Some found = rw firm at is in sym (listed.each place found there)
+    ]
+
+pub arc_ends-forward : (ways : Ways) (net : NetState) (potentials : ℕ → ℤ) (listing : Listing) → AreListed (edges_of net.edges) To listing → (place : ℕ) (arc : Arc) →
+    arcs_of (walkable ways net) potentials place false ≡ Some arc → arc.to ≡ node_of listing place
+arc_ends-forward ways net potentials listing listed place arc is =
+    let found = IsArcOf-arc (walkable ways net) potentials place false arc is in
+    ap (λ (a : Arc). a.to) found.same ∙ forward_end ways net potentials listing listed place found.edge found.walked

@@ -4,6 +4,7 @@ use Rattle.std.proofs.lemmas.Bool.{cases_eq, cases_lt, cases_Bool, eq-eqb, ne_eq
 use Rattle.std.proofs.lemmas.List.{length-set, get_or-set_same, get_or-set_other}
 use Rattle.std.proofs.lemmas.List.Sums.{count_by-le-length}
 use Rattle.uhura_net.specs.declared.edge.TheConstants.{NODES}
+use Rattle.uhura_net.specs.declared.place.TheConstants.{PLACES}
 use Rattle.uhura_path.specs.declared.ways.Arc.{Arc}
 use Rattle.uhura_path.specs.declared.label.Step.{Step}
 use Rattle.uhura_path.specs.declared.label.Label.{Label}
@@ -27,8 +28,8 @@ few_listed aim spread place listed =
     let most = count_by-le-length (is_own aim.mark) spread.labels in
     omega (arith, most, listed.all, listed.labelled)
 
-module _ (aim : Aim) (taken node level : ℕ) (old : Spread) (arc : Arc) (step : Step) (at : IsAtNode aim taken node level old) (there : aim.arcs step.place.0 step.backward ≡ Some arc)
-    (ends : arc.to ≡ node) (later : 1 ≤ aim.mark) (inside : arc.from < NODES) (near : level + arc.cost < old.front.cap) (apart : aim.goal ≢ arc.from) where
+module _ (aim : Aim) (taken node level : ℕ) (old : Spread) (arc : Arc) (step : Step) (at : IsAtNode aim taken node level old) (within : step.place.0 < PLACES)
+    (there : aim.arcs step.place.0 step.backward ≡ Some arc) (ends : arc.to ≡ node) (later : 1 ≤ aim.mark) (inside : arc.from < NODES) (near : level + arc.cost < old.front.cap) (apart : aim.goal ≢ arc.from) where
   abbrev was : IsSpread aim (taken + 1) level old
   was = at.spreads
 
@@ -43,9 +44,9 @@ module _ (aim : Aim) (taken node level : ℕ) (old : Spread) (arc : Arc) (step :
 
   goes_on : (new : Spread) (after : ℕ → ℕ) → IsPutAt aim (taken + 1) old new was.place after arc.from (level + arc.cost) step → GoesOn aim taken node level old new × IsKept aim new arc
   goes_on new after put =
-      let spreads = IsSpread-put aim (taken + 1) level old new after arc.from (level + arc.cost) step was put arc there refl (omega (arith, end_place)) end_far refl near apart in
-      let grown = IsGrown-put aim (taken + 1) level old new after arc.from (level + arc.cost) step was put arc there refl (omega (arith, end_place)) end_far refl near apart in
-      let kept = IsKept-put aim (taken + 1) level old new after arc.from (level + arc.cost) step was put arc there refl (omega (arith, end_place)) end_far refl near apart in
+      let spreads = IsSpread-put aim (taken + 1) level old new after arc.from (level + arc.cost) step was put within arc there refl (omega (arith, end_place)) end_far refl near apart in
+      let grown = IsGrown-put aim (taken + 1) level old new after arc.from (level + arc.cost) step was put within arc there refl (omega (arith, end_place)) end_far refl near apart in
+      let kept = IsKept-put aim (taken + 1) level old new after arc.from (level + arc.cost) step was put within arc there refl (omega (arith, end_place)) end_far refl near apart in
       let same : node_at new taken ≡ node = grown.order taken (omega arith) ∙ at.here in
       let far : reach aim new node ≡ level = ap (reach aim new) (sym at.here) ∙ grown.done taken (omega arith) ∙ ap (reach aim old) at.here ∙ at.far in
       (record { stays = record { spreads = spreads; here = same; far = far }; grown = grown }, kept)

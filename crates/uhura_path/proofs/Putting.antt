@@ -2,6 +2,7 @@
 use Rattle.std.proofs.Common.{◌≡◌, ◌≢◌, ℕ, ◌+◌, ◌<◌, ◌≤◌, Bool, true, false, List, length, set, Option, None, Some, MatchOption, refl, sym, ap, subst, ◌∙◌, inl, inr, arith}
 use Rattle.std.proofs.lemmas.Bool.{cases_eq, cases_lt, eq-eqb, both_ways}
 use Rattle.uhura_net.specs.declared.edge.TheConstants.{NODES}
+use Rattle.uhura_net.specs.declared.place.TheConstants.{PLACES}
 use Rattle.uhura_path.specs.declared.ways.Arc.{Arc}
 use Rattle.uhura_path.specs.declared.label.Step.{Step}
 use Rattle.uhura_path.specs.declared.label.Label.{Label}
@@ -71,11 +72,12 @@ module _ (aim : Aim) (taken level : ℕ) (old new : Spread) (after : ℕ → ℕ
   closing_as apart None capped = put.cap ∙ capped
   closing_as apart (Some first) closing = closing_stays apart first closing
 
-  step_here : (arc : Arc) → aim.arcs step.place.0 step.backward ≡ Some arc → arc.from ≡ start → was.place arc.to < taken → cost ≡ reach aim old arc.to + arc.cost →
+  step_here : step.place.0 < PLACES → (arc : Arc) → aim.arcs step.place.0 step.backward ≡ Some arc → arc.from ≡ start → was.place arc.to < taken → cost ≡ reach aim old arc.to + arc.cost →
       IsStep aim taken new after start step cost
-  step_here arc there starts done costs =
+  step_here within arc there starts done costs =
       let stays = done_stays arc.to done in
       record {
+        inside = within;
         arc = arc;
         there = there;
         starts = starts;
@@ -101,7 +103,7 @@ module _ (aim : Aim) (taken level : ℕ) (old new : Spread) (after : ℕ → ℕ
             subst (R node) (sym (label_there node other)) moved
       ]
 
-  module _ (arc : Arc) (there : aim.arcs step.place.0 step.backward ≡ Some arc) (starts : arc.from ≡ start) (done : was.place arc.to < taken) (far : reach aim old arc.to ≡ level)
+  module _ (within : step.place.0 < PLACES) (arc : Arc) (there : aim.arcs step.place.0 step.backward ≡ Some arc) (starts : arc.from ≡ start) (done : was.place arc.to < taken) (far : reach aim old arc.to ≡ level)
       (costs : cost ≡ level + arc.cost) (near : cost < old.front.cap) (apart : aim.goal ≢ start) where
     pub IsSpread-put : IsSpread aim taken level new
     IsSpread-put = record {
@@ -128,7 +130,7 @@ module _ (aim : Aim) (taken level : ℕ) (old new : Spread) (after : ℕ → ℕ
       root_here = own_there aim.root (λ same. put.apart (sym same)) ∙ was.root_here;
       root_zero = reach_there aim.root (λ same. put.apart (sym same)) ∙ was.root_zero;
       goal_free = own_there aim.goal apart ∙ was.goal_free;
-      steps = steps_after (step_here arc there starts done (omega (arith, far)));
+      steps = steps_after (step_here within arc there starts done (omega (arith, far)));
       closing =
           let P : Option Step → Type 0 = λ first. MatchOption first (new.front.cap ≡ aim.cap) (IsClosing aim taken new after) in
           subst P (sym put.closing) (closing_as apart old.front.closing was.closing);

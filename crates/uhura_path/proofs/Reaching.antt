@@ -72,6 +72,7 @@ pub IsStep-stays : (aim : Aim) (taken more : ℕ) (old new : Spread) (place afte
 IsStep-stays aim taken more old new place after node cost step further same later is =
     let stays = same is.arc.to is.done in
     record {
+      inside = is.inside;
       arc = is.arc;
       there = is.there;
       starts = is.starts;

@@ -1,6 +1,7 @@
 -- How a search spreads from its root against the arcs.
 use Rattle.std.specs.Prelude.{ℕ, ◌+◌, ◌<◌, ◌≤◌, ◌≡◌, ◌≢◌, ◌==◌, ◌⊎◌, min, Bool, true, false, if◌then◌else◌, List, length, count_by, Option, None, Some, MatchOption, slice_index_or, slice_set}
 use Rattle.uhura_net.specs.declared.edge.TheConstants.{NODES}
+use Rattle.uhura_net.specs.declared.place.TheConstants.{PLACES}
 use Rattle.uhura_path.specs.declared.ways.Arc.{Arc}
 use Rattle.uhura_path.specs.declared.label.Step.{Step}
 use Rattle.uhura_path.specs.declared.label.Label.{Label}
@@ -44,6 +45,7 @@ pub record IsListed (aim : Aim) (spread : Spread) (place : ℕ → ℕ) : Type 0
 -- the step of a node goes along an arc to a node that was done before it
 pub record IsStep (aim : Aim) (taken : ℕ) (spread : Spread) (place : ℕ → ℕ) (node : ℕ) (step : Step)
     (cost : ℕ) : Type 0 where
+  pub inside : step.place.0 < PLACES
   pub arc : Arc
   pub there : aim.arcs step.place.0 step.backward ≡ Some arc
   pub starts : arc.from ≡ node
@@ -127,6 +129,16 @@ pub record IsGrown (aim : Aim) (taken : ℕ) (old new : Spread) : Type 0 where
 pub record GoesOn (aim : Aim) (taken node level : ℕ) (old new : Spread) : Type 0 where
   pub stays : IsAtNode aim taken node level new
   pub grown : IsGrown aim (taken + 1) old new
+
+-- The nearest open node comes to the front of the open ones, in the place of another.
+pub record IsChosen (taken count : ℕ) (labels : List Label) (old new : List ℕ) (node : ℕ) : Type 0 where
+  pub best : ℕ
+  pub from : taken ≤ best
+  pub within : best < count
+  pub chosen : node ≡ slice_index_or old best 0
+  pub swapped : new ≡ slice_set (slice_set old best (slice_index_or old taken 0)) taken node
+  pub least : (at : ℕ) → taken ≤ at → at < count →
+      (label_at labels node).distance ≤ (label_at labels (slice_index_or old at 0)).distance
 
 -- the search is over: no open node is nearer than the cap
 pub record IsOver (aim : Aim) (taken : ℕ) (spread : Spread) : Type 0 where

@@ -4,7 +4,7 @@ use Rattle.std.specs.Option.{option_map}
 use Rattle.std.specs.Int.RustNames.{unsigned_abs}
 use Rattle.uhura_net.specs.declared.edge.TheConstants.{NODES}
 use Rattle.uhura_net.specs.declared.edge.Edge.{Edge}
-use Rattle.uhura_net.specs.Edges.{edge_at, time_at}
+use Rattle.uhura_net.specs.Edges.{time_at}
 use Rattle.uhura_net.specs.Circulation.{edges_of, units_of}
 use Rattle.uhura_net.specs.Residual.{residual_edge}
 use Rattle.uhura_net.specs.Optimal.{slack_of, firm_edges}
@@ -22,11 +22,15 @@ Walkable = ℕ → Bool → Option Edge
 abbrev pub roomy_edge : Edge → Option Edge
 roomy_edge edge = if nat_le 1 edge.capacity then Some edge else None
 
+-- what an edge with some units leaves to be walked, where there is one
+abbrev pub residual_option : Option Edge → ℕ → Bool → Option Edge
+residual_option None units backward = None
+residual_option (Some edge) units backward = roomy_edge (residual_edge edge units backward)
+
 -- the residual edges of a net that can carry a unit or more, or the firm edges alone, forward
 abbrev pub walkable : Ways → NetState → Walkable
 walkable Residual net place backward =
-    roomy_edge (residual_edge (edge_at (edges_of net.edges) place)
-    (units_of net.units place) backward)
+    residual_option (edges_of net.edges place) (units_of net.units place) backward
 walkable Firm net place false = firm_edges (edges_of net.edges) place
 walkable Firm net place true = None
 

@@ -14,6 +14,8 @@ mod quest;
 mod relaxing;
 mod scratch;
 mod searching;
+mod spreading;
+mod taking;
 mod task;
 mod ways;
 

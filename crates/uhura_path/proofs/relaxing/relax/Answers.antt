@@ -18,7 +18,7 @@ returns-else-arc-quest-clause-on c = λ taken at.
     let old : Spread = record { labels = c.args.labels.now; order = c.args.order.now; front = c.args.front.now } in
     let new : Spread = record { labels = c.note_label.new.labels; order = c.note_label.new.order; front = c.note_label.new.front } in
     let there = sym c.arc.ensures.arc ∙ c.in-Some.is in
-    (GoesOn-noted (aim_of c.args.quest.now) taken c.args.node c.args.distance old c.in-Some.arc c.args.step at there (c.requires.ends c.in-Some.arc there) c.requires.quest.later
+    (GoesOn-noted (aim_of c.args.quest.now) taken c.args.node c.args.distance old c.in-Some.arc c.args.step at c.requires.place there (c.requires.ends c.in-Some.arc there) c.requires.quest.later
     c.in-Some.ensures.sound.starts c.if-cost-front.false (λ same. c.if-arc-quest.false (sym same)) new c.note_label.ensures).0
 
 pub returns-else-arc-quest-clause-kept : goal.returns-else-arc-quest-clause-kept
@@ -30,5 +30,5 @@ returns-else-arc-quest-clause-kept c = λ arc is.
     let same : c.in-Some.arc ≡ arc = cc in
     let P : Arc → Type 0 = λ a. IsKept (aim_of c.args.quest.now) new a in
     subst P same
-    (GoesOn-noted (aim_of c.args.quest.now) c.requires.at.0 c.args.node c.args.distance old c.in-Some.arc c.args.step c.requires.at.1 there (c.requires.ends c.in-Some.arc there)
+    (GoesOn-noted (aim_of c.args.quest.now) c.requires.at.0 c.args.node c.args.distance old c.in-Some.arc c.args.step c.requires.at.1 c.requires.place there (c.requires.ends c.in-Some.arc there)
     c.requires.quest.later c.in-Some.ensures.sound.starts c.if-cost-front.false (λ same. c.if-arc-quest.false (sym same)) new c.note_label.ensures).1
