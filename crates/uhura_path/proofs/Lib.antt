@@ -2,6 +2,9 @@ mod Backward
 mod Noting
 mod Putting
 mod Reaching
+mod Swapping
 mod Turns
+mod Beginning
+mod Distances
 mod Ends
 mod Listwalk
