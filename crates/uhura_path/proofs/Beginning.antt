@@ -21,7 +21,7 @@ count_by_none mark labels none =
     omega (arith, sum_by-le (λ l. cond (is_own mark l) 1 0) 0 labels zeros)
 
 module _ (aim : Aim) (labels : List Label) (order : List ℕ) (labelled : length labels ≡ NODES) (ordered : length order ≡ NODES) (root : aim.root < NODES) (apart : aim.root ≢ aim.goal)
-    (fresh : (node : ℕ) → (label_at labels node).mark ≢ aim.mark) where
+    (fresh : (node : ℕ) → (label_at labels node).mark < aim.mark) where
   abbrev label : Label
   label = record no_label { mark = aim.mark }
 
@@ -44,7 +44,7 @@ module _ (aim : Aim) (labels : List Label) (order : List ℕ) (labelled : length
   own_root = ap (is_own aim.mark) label_root ∙ eq-eqb aim.mark aim.mark refl
 
   none_other : (n : ℕ) → n ≢ aim.root → has_label aim begun n ≡ false
-  none_other n other = ap (is_own aim.mark) (label_at-set_other labels aim.root n label other) ∙ ne_eqb _ _ (fresh n)
+  none_other n other = ap (is_own aim.mark) (label_at-set_other labels aim.root n label other) ∙ ne_eqb _ _ (λ same. absurd (omega (arith, fresh n)))
 
   reach_root : reach aim begun aim.root ≡ 0
   reach_root = reach-own aim (label_at begun.labels aim.root) own_root ∙ ap (λ (l : Label). l.distance) label_root
@@ -68,7 +68,7 @@ module _ (aim : Aim) (labels : List Label) (order : List ℕ) (labelled : length
       labelled = length-set labels aim.root label ∙ labelled;
       ordered = length-set order 0 aim.root ∙ ordered;
       all =
-          let free : (n : ℕ) → is_own aim.mark (label_at labels n) ≡ false = λ n. ne_eqb _ _ (fresh n) in
+          let free : (n : ℕ) → is_own aim.mark (label_at labels n) ≡ false = λ n. ne_eqb _ _ (λ same. absurd (omega (arith, fresh n))) in
           let none = count_by_none aim.mark labels free in
           let one = count_by-set_more aim.mark aim.root labels label (omega (arith, labelled)) (free aim.root) (eq-eqb aim.mark aim.mark refl) in
           omega (arith, none, one);
@@ -85,6 +85,15 @@ module _ (aim : Aim) (labels : List Label) (order : List ℕ) (labelled : length
           let first : at ≡ 0 = omega arith in
           ap place (ap (node_at begun) first ∙ node_first) ∙ place_root ∙ sym first;
     };
+    marked = λ n.
+        elim (cases_eq n aim.root) [
+          | inl same ↦
+              let marks : (label_at begun.labels n).mark ≡ aim.mark = ap (λ m. (label_at begun.labels m).mark) same ∙ ap (λ (l : Label). l.mark) label_root in
+              omega arith
+          | inr other ↦
+              let marks : (label_at begun.labels n).mark ≡ (label_at labels n).mark = ap (λ (l : Label). l.mark) (label_at-set_other labels aim.root n label other) in
+              omega (arith, fresh n)
+        ];
     some = omega arith;
     capped = omega arith;
     reached = omega arith;

@@ -1,6 +1,7 @@
 mod Backward
 mod Noting
 mod Putting
+mod Raising
 mod Reaching
 mod Swapping
 mod Turns

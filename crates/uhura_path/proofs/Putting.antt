@@ -109,6 +109,15 @@ module _ (aim : Aim) (taken level : ℕ) (old new : Spread) (after : ℕ → ℕ
     IsSpread-put = record {
       place = after;
       listed = put.listed;
+      marked = λ node.
+          elim (cases_eq node start) [
+            | inl at ↦
+                let same : (label_at new.labels node).mark ≡ aim.mark = ap (λ n. (label_at new.labels n).mark) at ∙ ap (λ (l : Label). l.mark) label_here in
+                omega arith
+            | inr other ↦
+                let same : (label_at new.labels node).mark ≡ (label_at old.labels node).mark = ap (λ (l : Label). l.mark) (label_there node other) in
+                omega (arith, was.marked node)
+          ];
       some = put.more;
       capped = omega (arith, put.cap, was.capped);
       reached = omega (arith, put.cap, was.reached);

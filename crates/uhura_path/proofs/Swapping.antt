@@ -130,6 +130,7 @@ module _ (aim : Aim) (taken level node : ℕ) (old : Spread) (order : List ℕ) 
   IsSpread-swapped = record {
     place = after;
     listed = IsListed-swapped;
+    marked = was.marked;
     some = was.some;
     capped = was.capped;
     reached = was.reached;
@@ -199,6 +200,7 @@ module _ (aim : Aim) (taken level node : ℕ) (old : Spread) (order : List ℕ) 
     IsSpread-taken = record {
       place = after;
       listed = IsListed-swapped;
+      marked = was.marked;
       some = omega arith;
       capped = was.capped;
       reached = omega arith;

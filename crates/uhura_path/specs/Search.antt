@@ -7,6 +7,7 @@ use Rattle.uhura_path.specs.declared.label.Step.{Step}
 use Rattle.uhura_path.specs.declared.label.Label.{Label}
 use Rattle.uhura_path.specs.declared.front.Front.{Front}
 use Rattle.uhura_path.specs.Found.{label_at}
+use Rattle.uhura_path.specs.Scratch.{AreMarkedTo}
 use Rattle.uhura_path.specs.Quest.{Aim}
 
 -- The labels; the nodes that have one, first those that are done and then the open ones; and how many they are, with
@@ -63,6 +64,7 @@ pub record IsClosing (aim : Aim) (taken : ℕ) (spread : Spread) (place : ℕ �
 pub record IsSpread (aim : Aim) (taken level : ℕ) (spread : Spread) : Type 0 where
   pub place : ℕ → ℕ
   pub listed : IsListed aim spread place
+  pub marked : AreMarkedTo aim.mark spread.labels
   pub some : taken ≤ spread.front.count
   pub capped : spread.front.cap ≤ aim.cap
   pub reached : level ≤ spread.front.cap
@@ -147,3 +149,9 @@ pub record IsOver (aim : Aim) (taken : ℕ) (spread : Spread) : Type 0 where
   pub kept : AreKept aim taken spread
   pub near : (at : ℕ) → taken ≤ at → at < spread.front.count →
       spread.front.cap ≤ reach aim spread (node_at spread at)
+
+-- and it found a path that begins with a step of the goal
+pub record IsClosed (aim : Aim) (taken : ℕ) (labels : List Label) (order : List ℕ) (front : Front)
+    (closing : Step) : Type 0 where
+  pub over : IsOver aim taken (record { labels = labels; order = order; front = front })
+  pub first : front.closing ≡ Some closing

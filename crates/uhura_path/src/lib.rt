@@ -17,6 +17,7 @@ mod searching;
 mod spreading;
 mod taking;
 mod task;
+mod tracing;
 mod ways;
 
 pub use found::{Found, Path};

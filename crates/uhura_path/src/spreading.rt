@@ -1,5 +1,5 @@
 //! Spreading from the root against the arcs.
-ghost use Rattle.std.specs.Prelude.{ℕ, ◌≡◌, ◌≢◌, length};
+ghost use Rattle.std.specs.Prelude.{ℕ, ◌≡◌, ◌<◌, length};
 ghost use Rattle.uhura_net.specs.declared.edge.TheConstants.{NODES};
 ghost use Rattle.uhura_path.specs.Found.{label_at};
 ghost use Rattle.uhura_path.specs.Quest.{IsQuest, aim_of};
@@ -18,7 +18,7 @@ pub(crate) fn spread(quest: &Quest, labels: &mut [Label], order: &mut [u32]) -> 
     requires quest { IsQuest quest.now }
     requires labels { length labels.old ≡ NODES }
     requires order { length order.old ≡ NODES }
-    requires fresh { (node : ℕ) → (label_at labels.old node).mark ≢ quest.now.mark }
+    requires fresh { (node : ℕ) → (label_at labels.old node).mark < quest.now.mark }
     ensures { IsOver (aim_of quest.now) result.0
         (record { labels = labels.new; order = order.new; front = result.1 }) }
 {
@@ -42,7 +42,7 @@ fn begin(quest: &Quest, labels: &mut [Label], order: &mut [u32]) -> Front
     requires quest { IsQuest quest.now }
     requires labels { length labels.old ≡ NODES }
     requires order { length order.old ≡ NODES }
-    requires fresh { (node : ℕ) → (label_at labels.old node).mark ≢ quest.now.mark }
+    requires fresh { (node : ℕ) → (label_at labels.old node).mark < quest.now.mark }
     ensures { IsSpread (aim_of quest.now) 0 0
         (record { labels = labels.new; order = order.new; front = result }) }
 {
