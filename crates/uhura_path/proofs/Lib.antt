@@ -4,6 +4,7 @@ mod Putting
 mod Raising
 mod Reaching
 mod Swapping
+mod Trail
 mod Turns
 mod Beginning
 mod Distances
