@@ -15,6 +15,7 @@ use Rattle.uhura_net.specs.Net.{NetState, IsNet}
 use Rattle.uhura_path.specs.declared.ways.Ways.{Ways}
 use Rattle.uhura_path.specs.declared.ways.Ways.TheVariants.{Residual, Firm}
 use Rattle.uhura_path.specs.declared.ways.Arc.{Arc}
+use Rattle.uhura_path.proofs.Trail.{AreOpposite}
 use Rattle.uhura_path.specs.Ways.{Walkable, residual_option, walkable, roomy_edge, arc_of, arcs_of}
 
 -- an arc is that of an edge which may be walked
@@ -86,3 +87,27 @@ pub arc_ends-forward : (ways : Ways) (net : NetState) (potentials : ℕ → ℤ)
 arc_ends-forward ways net potentials listing listed place arc is =
     let found = IsArcOf-arc (walkable ways net) potentials place false arc is in
     ap (λ (a : Arc). a.to) found.same ∙ forward_end ways net potentials listing listed place found.edge found.walked
+
+-- the arcs of a place, forward and backward, lead between the same nodes
+opposite_ends : (ways : Ways) (net : NetState) (place : ℕ) (forward backward : Edge) → walkable ways net place false ≡ Some forward → walkable ways net place true ≡ Some backward →
+    (forward.from ≡ backward.to) × (forward.to ≡ backward.from)
+opposite_ends Firm net place forward backward ahead behind = absurd (let no : ⊥ = cc in no)
+opposite_ends Residual net place forward backward ahead behind =
+    let first = IsLeft-residual (edges_of net.edges place) (units_of net.units place) false forward ahead in
+    let second = IsLeft-residual (edges_of net.edges place) (units_of net.units place) true backward behind in
+    let both : Some first.whole ≡ Some second.whole = sym first.there ∙ second.there in
+    let one : first.whole ≡ second.whole = cc in
+    (
+      ap (λ (e : Edge). e.from) (sym first.roomy.same) ∙ ap (λ (e : Edge). e.from) one ∙ ap (λ (e : Edge). e.to) second.roomy.same,
+      ap (λ (e : Edge). e.to) (sym first.roomy.same) ∙ ap (λ (e : Edge). e.to) one ∙ ap (λ (e : Edge). e.from) second.roomy.same
+    )
+
+pub AreOpposite-arcs : (ways : Ways) (net : NetState) (potentials : ℕ → ℤ) → AreOpposite (arcs_of (walkable ways net) potentials)
+AreOpposite-arcs ways net potentials place a b forward backward =
+    let first = IsArcOf-arc (walkable ways net) potentials place false a forward in
+    let second = IsArcOf-arc (walkable ways net) potentials place true b backward in
+    let ends = opposite_ends ways net place first.edge second.edge first.walked second.walked in
+    (
+      ap (λ (x : Arc). x.from) first.same ∙ ends.0 ∙ sym (ap (λ (x : Arc). x.to) second.same),
+      ap (λ (x : Arc). x.to) first.same ∙ ends.1 ∙ sym (ap (λ (x : Arc). x.from) second.same)
+    )

@@ -6,6 +6,7 @@ mod Reaching
 mod Swapping
 mod Trail
 mod Turns
+mod Backtrack
 mod Beginning
 mod Distances
 mod Ends
