@@ -10,4 +10,5 @@ mod Backtrack
 mod Beginning
 mod Distances
 mod Ends
+mod Finding
 mod Listwalk
