@@ -11,7 +11,9 @@ use Rattle.uhura_path.specs.declared.front.Front.{Front}
 use Rattle.uhura_path.specs.declared.found.Path.{Path}
 use Rattle.uhura_path.specs.declared.found.Found.{Found}
 use Rattle.uhura_path.specs.Ways.{Arcs}
-use Rattle.uhura_path.specs.Found.{label_at, IsPathOf, IsReached, IsFound}
+use Rattle.uhura_net.specs.declared.place.Place.{Place}
+use Rattle.uhura_path.specs.Walk.{IsWalk, NoneIsShorter}
+use Rattle.uhura_path.specs.Found.{label_at, AreDistances, IsPathOf, IsReached, IsFound}
 use Rattle.uhura_path.specs.Quest.{Aim}
 use Rattle.uhura_path.specs.Search.{Spread, has_label, reach, node_at, IsClosing, IsSpread, IsOver, IsClosed}
 use Rattle.uhura_path.proofs.Reaching.{reach-own, inside_labelled}
@@ -67,12 +69,37 @@ module _ (aim : Aim) (taken : ℕ) (labels : List Label) (order : List ℕ) (fro
     most = λ node. omega (arith, out.cost);
   }
 
-  -- with the path, or without one where the cap stands
-  pub IsFound-over : (task : Task) → task.root ≡ aim.root → task.goal ≡ aim.goal → task.cap ≡ aim.cap →
-      MatchOption found.path (front.cap ≡ aim.cap) (λ path. (front.cap < aim.cap) × IsPathOf aim.arcs aim.goal path aim.root front.cap) → IsFound aim.arcs task found
-  IsFound-over task root goal cap path =
+  -- what is found, at a cost between two nodes below a cap
+  record IsFoundAt (root goal cap cost : ℕ) : Type 0 where
+    pub most : cost ≤ cap
+    pub path : MatchOption found.path (cost ≡ cap) (λ path. (cost < cap) × IsPathOf aim.arcs goal path root cost)
+    pub shortest : NoneIsShorter aim.arcs goal root cost
+    pub distances : AreDistances aim.arcs root cost (capped aim taken spread over)
+    pub at_goal : capped aim taken spread over goal ≡ cost
+
+  IsFoundAt-over : MatchOption found.path (front.cap ≡ aim.cap) (λ path. (front.cap < aim.cap) × IsPathOf aim.arcs aim.goal path aim.root front.cap) →
+      IsFoundAt aim.root aim.goal aim.cap front.cap
+  IsFoundAt-over path =
       let distances = AreDistances-over aim taken spread over in
       let at_goal = capped_goal aim taken spread over in
-      let P : ℕ → ℕ → ℕ → ℕ → Type 0 = λ r g most cost. MatchOption found.path (cost ≡ most) (λ path. (cost < most) × IsPathOf aim.arcs g path r cost) in
-      let shortest = NoneIsShorter-distance aim.arcs aim.root front.cap (capped aim taken spread over) distances aim.goal in
-      ?
+      let least : (places : List Place) (backward : List Bool) (other : ℕ) → IsWalk aim.arcs aim.goal places backward aim.root other → front.cap ≤ other = λ places backward other walk.
+      omega (arith, at_goal, NoneIsShorter-distance aim.arcs aim.root front.cap (capped aim taken spread over) distances aim.goal places backward other walk) in
+      record { most = was.capped; path = path; shortest = least; distances = distances; at_goal = at_goal }
+
+  -- with the path, or without one where the cap stands
+  pub IsFound-over : (task : Task) → aim.root ≡ task.root → aim.goal ≡ task.goal → aim.cap ≡ task.cap →
+      MatchOption found.path (front.cap ≡ aim.cap) (λ path. (front.cap < aim.cap) × IsPathOf aim.arcs aim.goal path aim.root front.cap) → IsFound aim.arcs task found
+  IsFound-over task root goal cap path =
+      let at_root : IsFoundAt task.root aim.goal aim.cap front.cap = subst (λ r. IsFoundAt r aim.goal aim.cap front.cap) root (IsFoundAt-over path) in
+      let at_goal : IsFoundAt task.root task.goal aim.cap front.cap = subst (λ g. IsFoundAt task.root g aim.cap front.cap) goal at_root in
+      let at_cap : IsFoundAt task.root task.goal task.cap front.cap = subst (λ m. IsFoundAt task.root task.goal m front.cap) cap at_goal in
+      let is : IsFoundAt task.root task.goal task.cap found.cost = subst (IsFoundAt task.root task.goal task.cap) (sym out.cost) at_cap in
+      record {
+        most = is.most;
+        path = is.path;
+        shortest = is.shortest;
+        distance = capped aim taken spread over;
+        distances = is.distances;
+        goal = is.at_goal;
+        reached = IsReached-over;
+      }

@@ -2,6 +2,7 @@ use Rattle.std.proofs.Common.{◌≡◌, ℕ, ◌+◌, ◌^◌, ◌<◌, ◌≤�
 use Rattle.uhura_net.specs.Edges.{time_at}
 use Rattle.uhura_path.specs.declared.front.Front.{Front}
 use Rattle.uhura_path.specs.Walk.{IsPath, IsLeastRoom}
+use Rattle.uhura_path.specs.Found.{label_at}
 use Rattle.uhura_path.specs.Quest.{Aim, aim_of}
 use Rattle.uhura_path.specs.Search.{Spread}
 use Rattle.uhura_path.proofs.Ends.{AreOpposite-arcs}
@@ -63,7 +64,7 @@ loop-count-preserved c = λ taken order front closed.
     let least : min loop.least c.in-Some.arc.room ≡ c.min-least.result = omega (arith, c.min-least.ensures) in
     let more = IsTraced-more (aim_of quest) taken spread closed.over loop.count loop.step loop.least loop.places loop.backward c.in-Some.arc (loop.invariant taken order front closed)
     in_places in_backward (sym c.arc.ensures.arc ∙ c.in-Some.is) (omega (arith, fits)) c.if-arc-quest.false in
-    let P : ℕ → Type 0 = λ n. IsTraced (aim_of quest) taken spread closed.over.spreads.place (loop.count + 1) _ n (set loop.places loop.count loop.step.place)
+    let P : ℕ → Type 0 = λ n. IsTraced (aim_of quest) taken spread closed.over.spreads.place (loop.count + 1) (label_at c.args.labels.now c.in-Some.arc.to).step n (set loop.places loop.count loop.step.place)
     (set loop.backward loop.count loop.step.backward) in
     subst P least more
 
