@@ -97,9 +97,8 @@ module _ (aim : Aim) (taken : ℕ) (spread : Spread) (over : IsOver aim taken sp
         let path = IsPath-prefix aim.arcs aim.goal was.place (count + 1) arc.to (so_far.cost + arc.cost) (min least arc.room) (set places count step.place)
         (set backward count step.backward) prefix long_places long_backward opposite in
         let Leads : ℕ → ℕ → Type 0 = λ to cost.
-        IsPath aim.arcs aim.goal (take (count + 1) (set places count step.place)) (take (count + 1) (set backward count step.backward)) to cost in
-        (
+        IsPath aim.arcs aim.goal (take (count + 1) (set places count step.place)) (take (count + 1) (set backward count step.backward)) to cost in (
           subst (Leads aim.root) sum (subst (λ to. Leads to (so_far.cost + arc.cost)) at_root path),
           IsLeastRoom-prefix aim.arcs aim.goal was.place (count + 1) arc.to (so_far.cost + arc.cost) (min least arc.room) (set places count step.place)
-          (set backward count step.backward) prefix long_places long_backward (omega arith)
+              (set backward count step.backward) prefix long_places long_backward (omega arith),
         )

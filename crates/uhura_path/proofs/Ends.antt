@@ -96,18 +96,16 @@ opposite_ends Residual net place forward backward ahead behind =
     let first = IsLeft-residual (edges_of net.edges place) (units_of net.units place) false forward ahead in
     let second = IsLeft-residual (edges_of net.edges place) (units_of net.units place) true backward behind in
     let both : Some first.whole ≡ Some second.whole = sym first.there ∙ second.there in
-    let one : first.whole ≡ second.whole = cc in
-    (
+    let one : first.whole ≡ second.whole = cc in (
       ap (λ (e : Edge). e.from) (sym first.roomy.same) ∙ ap (λ (e : Edge). e.from) one ∙ ap (λ (e : Edge). e.to) second.roomy.same,
-      ap (λ (e : Edge). e.to) (sym first.roomy.same) ∙ ap (λ (e : Edge). e.to) one ∙ ap (λ (e : Edge). e.from) second.roomy.same
+      ap (λ (e : Edge). e.to) (sym first.roomy.same) ∙ ap (λ (e : Edge). e.to) one ∙ ap (λ (e : Edge). e.from) second.roomy.same,
     )
 
 pub AreOpposite-arcs : (ways : Ways) (net : NetState) (potentials : ℕ → ℤ) → AreOpposite (arcs_of (walkable ways net) potentials)
 AreOpposite-arcs ways net potentials place a b forward backward =
     let first = IsArcOf-arc (walkable ways net) potentials place false a forward in
     let second = IsArcOf-arc (walkable ways net) potentials place true b backward in
-    let ends = opposite_ends ways net place first.edge second.edge first.walked second.walked in
-    (
+    let ends = opposite_ends ways net place first.edge second.edge first.walked second.walked in (
       ap (λ (x : Arc). x.from) first.same ∙ ends.0 ∙ sym (ap (λ (x : Arc). x.to) second.same),
-      ap (λ (x : Arc). x.to) first.same ∙ ends.1 ∙ sym (ap (λ (x : Arc). x.from) second.same)
+      ap (λ (x : Arc). x.to) first.same ∙ ends.1 ∙ sym (ap (λ (x : Arc). x.from) second.same),
     )

@@ -3,6 +3,7 @@ mod Noting
 mod Putting
 mod Raising
 mod Reaching
+mod Steps
 mod Swapping
 mod Trail
 mod Turns

@@ -116,10 +116,10 @@ module _ (aim : Aim) (taken level node : ℕ) (old : Spread) (order : List ℕ) 
   step_swapped n cost step =
       IsStep-stays aim taken taken old new was.place after n cost step (omega arith) (λ other done. (swap_done (was.place other) done, refl))
       (λ at below before.
-          elim (cases_lt (was.place n) taken) [
-            | inl done ↦ omega (arith, swap_done (was.place n) done)
-            | inr open_yet ↦ omega (arith, swap_behind (was.place n) open_yet)
-          ])
+      elim (cases_lt (was.place n) taken) [
+        | inl done ↦ omega (arith, swap_done (was.place n) done)
+        | inr open_yet ↦ omega (arith, swap_behind (was.place n) open_yet)
+      ])
 
   closing_swapped : (first : Option Step) → MatchOption first (old.front.cap ≡ aim.cap) (IsClosing aim taken old was.place) →
       MatchOption first (new.front.cap ≡ aim.cap) (IsClosing aim taken new after)

@@ -145,9 +145,12 @@ module _ (arcs : Arcs) (goal : ℕ) (place : ℕ → ℕ) (count node cost least
           | inr some ↦
               elim (cases_lt arc.room least) [
                 | inl less ↦ (count, omega arith, let room : (arc_at arcs more_places more_backward count).room ≡ arc.room = ap (λ (a : Arc). a.room) arc_here in omega arith)
-                | inr most ↦
-                    (some.0, omega (arith, some.1), let room : (arc_at arcs more_places more_backward some.0).room ≡ (arc_at arcs places backward some.0).room =
-                    ap (λ (a : Arc). a.room) (arc_before some.0 some.1) in omega (arith, some.2))
+                | inr most ↦ (
+                  some.0,
+                  omega (arith, some.1),
+                  let room : (arc_at arcs more_places more_backward some.0).room ≡ (arc_at arcs places backward some.0).room =
+                      ap (λ (a : Arc). a.room) (arc_before some.0 some.1) in omega (arith, some.2),
+                )
               ]
         ]);
       }

@@ -44,7 +44,15 @@ fn follow_list(
         let Some(place) = at else {
             return;
         };
-        relax(quest, Step { place, backward }, node, distance, labels, order, front);
+        relax(
+            quest,
+            Step { place, backward },
+            node,
+            distance,
+            labels,
+            order,
+            front,
+        );
         at = lists.next(place);
     }
 }

@@ -29,7 +29,7 @@ loop-count-preserved c =
           let met = rw c.in-Some.is at (c.loop-count.invariant.met ranked) in
           HasMet-next aim c.args.backward c.args.lists.now ranked c.args.node c.requires.node old new c.in-Some.place.0 _ c.loop-count._count inside c.next-at.ensures.next met
           (λ place there kept arc is.
-              IsKept-grown aim (taken + 1) taken old new arc (c.relax.ensures.on taken at_old).grown (omega arith) (c.requires.ends place arc is ∙ there ∙ sym at_old.here) (kept arc is))
+          IsKept-grown aim (taken + 1) taken old new arc (c.relax.ensures.on taken at_old).grown (omega arith) (c.requires.ends place arc is ∙ there ∙ sym at_old.here) (kept arc is))
           c.relax.ensures.kept;
     }
 

@@ -63,9 +63,11 @@ pub follow_back-requires-clause-at : goal.follow_back-requires-clause-at
 follow_back-requires-clause-at c =
     let loop = c.loop-taken in
     let old : Spread = record { labels = loop.labels; order = loop.order; front = loop.front } in
-    let was = loop.invariant.spreads in
-    (loop.taken, IsAtNode-taken (aim_of c.args.quest.now) loop.taken loop.invariant.level c.take_least-node.result old c.take_least-node.new.order was (omega (arith, was.some))
-    c.take_least-node.ensures (omega arith))
+    let was = loop.invariant.spreads in (
+      loop.taken,
+      IsAtNode-taken (aim_of c.args.quest.now) loop.taken loop.invariant.level c.take_least-node.result old c.take_least-node.new.order was (omega (arith, was.some))
+          c.take_least-node.ensures (omega arith),
+    )
 
 pub loop-taken-preserved : goal.loop-taken-preserved
 loop-taken-preserved c =
