@@ -3,13 +3,13 @@ mod Noting
 mod Putting
 mod Raising
 mod Reaching
-mod Steps
+pub mod Steps
 mod Swapping
 mod Trail
-mod Turns
+pub mod Turns
 mod Backtrack
 mod Beginning
-mod Distances
+pub mod Distances
 mod Ends
 mod Finding
 mod Listwalk
