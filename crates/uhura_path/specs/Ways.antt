@@ -61,6 +61,15 @@ arc_of potentials edge = record {
 abbrev pub arcs_of : Walkable → (ℕ → ℤ) → Arcs
 arcs_of edges potentials place backward = option_map (arc_of potentials) (edges place backward)
 
+-- an arc that is gone along from its end to its start
+abbrev pub turned : Arc → Arc
+turned arc = record arc { from = arc.to; to = arc.from }
+
+-- arcs as they are, or all turned
+abbrev pub directed : Bool → Arcs → Arcs
+directed false arcs place backward = arcs place backward
+directed true arcs place backward = option_map turned (arcs place backward)
+
 -- an arc between two nodes whose cost keeps to the limit
 pub record IsSoundArc (arc : Arc) : Type 0 where
   pub starts : arc.from < NODES

@@ -34,6 +34,7 @@ pub fn search<'a>(
         potentials,
         task,
         mark,
+        outward: false,
     };
     let (taken, front) = spread(&quest, &mut scratch.labels, &mut scratch.order);
     let Some(closing) = front.closing else {

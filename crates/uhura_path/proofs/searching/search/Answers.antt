@@ -28,6 +28,22 @@ returns-in_default c =
     (record { cost = refl; reached = ap (take taken) order; labels_are = labels }) c.next_mark-mark.ensures.later c.requires.task.cap c.args.task refl refl refl
     (rw c.in_default.is at c.spread-taken.ensures.spreads.closing)
 
+pub trace-steps-requires-clause-over : goal.trace-steps-requires-clause-over
+trace-steps-requires-clause-over c =
+    let aim : Aim = record {
+      arcs = arcs_of (walkable c.args.ways c.args.net.now) (time_at c.args.potentials.now);
+      root = c.args.task.root;
+      goal = c.args.task.goal;
+      cap = c.args.task.cap;
+      mark = c.next_mark-mark.result;
+    } in
+    let taken = c.spread-taken.result.0 in
+    let front = c.spread-taken.result.1 in
+    let traced : c.deref-2.result.now ≡ c.spread-taken.new.labels = c.deref-2.ensures.value ∙ take_at _ _ _ (c.spread-taken.auto.labels ∙ c.deref_mut-2.ensures.len) in
+    let closed : IsClosed aim taken c.spread-taken.new.labels c.spread-taken.new.order front c.in-Some.closing = record { over = c.spread-taken.ensures; first = c.in-Some.is } in
+    let Closed : List Label → Type 0 = λ ls. IsClosed aim taken ls c.spread-taken.new.order front c.in-Some.closing in
+    (taken, c.spread-taken.new.order, front, subst Closed (sym traced) closed)
+
 pub returns : goal.returns
 returns c =
     let aim : Aim = record {
