@@ -168,8 +168,7 @@ AreOpposite-directed false arcs opposite place a b forward backward = opposite p
 AreOpposite-directed true arcs opposite place a b forward backward =
     let first = IsTurned-arc (arcs place false) a forward in
     let second = IsTurned-arc (arcs place true) b backward in
-    let ends = opposite place first.other second.other first.there second.there in
-    (
+    let ends = opposite place first.other second.other first.there second.there in (
       ap (λ (x : Arc). x.from) first.same ∙ ends.1 ∙ sym (ap (λ (x : Arc). x.to) second.same),
-      ap (λ (x : Arc). x.to) first.same ∙ ends.0 ∙ sym (ap (λ (x : Arc). x.from) second.same)
+      ap (λ (x : Arc). x.to) first.same ∙ ends.0 ∙ sym (ap (λ (x : Arc). x.from) second.same),
     )

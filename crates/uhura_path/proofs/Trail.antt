@@ -21,7 +21,7 @@ abbrev no_place : Place
 no_place = record { 0 = 0 }
 
 -- a walk goes on along one more arc
-walk_more : (arcs : Arcs) (from : ℕ) (places : List Place) (backward : List Bool) (to cost : ℕ) (place : Place) (back : Bool) (arc : Arc) →
+pub walk_more : (arcs : Arcs) (from : ℕ) (places : List Place) (backward : List Bool) (to cost : ℕ) (place : Place) (back : Bool) (arc : Arc) →
     IsWalk arcs from places backward to cost → arcs place.0 back ≡ Some arc → arc.from ≡ to →
     IsWalk arcs from (places ++ place ∷ []) (backward ++ back ∷ []) arc.to (cost + arc.cost)
 walk_more arcs from [] [] to cost place back arc walk there starts = (arc, 0, there, starts ∙ sym walk.0, omega (arith, walk.1), (refl, refl))

@@ -25,5 +25,6 @@ invariant_of-result c =
       ordered = ap length order ∙ length-replicate {A = ℕ} NODES 0;
       placed = ap length places ∙ length-replicate {A = Place} NODES (record { 0 = 0 });
       turned = ap length backward ∙ length-replicate NODES false;
+      told = omega (arith, c.in_ok-vec-5.ensures.len, c.in_ok-vec-5.field-0.ok.0);
       marked = AreMarkedTo-new _ labels;
     }
