@@ -1,18 +1,15 @@
 -- Arcs lead to the nodes where their places are listed.
-use Rattle.std.proofs.Common.{◌≡◌, ℕ, ◌≤◌, ℤ, nat_le, Bool, true, false, if◌then◌else◌, Option, None, Some, unwrap_or, refl, sym, ap, ◌∙◌, inl, inr, arith}
+use Rattle.std.proofs.Common.{◌≡◌, ℕ, ◌≤◌, ℤ, nat_le, Bool, true, false, Option, None, Some, refl, sym, ap, ◌∙◌, inl, inr}
 use mathlib.Core.Bool.{beq}
 use Rattle.std.specs.Option.{option_map}
 use Rattle.std.proofs.lemmas.Bool.{cases_Bool, leb-true}
 use Rattle.uhura_net.specs.declared.edge.Edge.{Edge}
-use Rattle.uhura_net.specs.declared.edge.End.{End}
 use Rattle.uhura_net.specs.declared.edge.End.TheVariants.{From, To}
 use Rattle.uhura_net.specs.Place.{is_loose}
-use Rattle.uhura_net.specs.Edges.{Edges, no_edge, edge_at}
 use Rattle.uhura_net.specs.Circulation.{edges_of, units_of}
 use Rattle.uhura_net.specs.Residual.{residual_edge}
-use Rattle.uhura_net.specs.Optimal.{firm_edges}
-use Rattle.uhura_net.specs.Lists.{Listing, node_of, end_node, AreListed}
-use Rattle.uhura_net.specs.Net.{NetState, IsNet}
+use Rattle.uhura_net.specs.Lists.{Listing, node_of, AreListed}
+use Rattle.uhura_net.specs.Net.{NetState}
 use Rattle.uhura_path.specs.declared.ways.Ways.{Ways}
 use Rattle.uhura_path.specs.declared.ways.Ways.TheVariants.{Residual, Firm}
 use Rattle.uhura_path.specs.declared.ways.Arc.{Arc}

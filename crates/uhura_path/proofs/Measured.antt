@@ -1,20 +1,19 @@
 -- A search without a goal and without a cap measures the distances of all nodes.
-use Rattle.std.proofs.Common.{◌≡◌, ◌≢◌, ℕ, zero, suc, ◌+◌, ◌*◌, ◌<◌, ◌≤◌, ◌==◌, min, ℤ, pos, Bool, true, false, if◌then◌else◌, List, [], ◌∷◌, length, Option, None, Some, MatchOption, refl, sym, ap, subst, ◌∙◌, inl, inr, arith}
+use Rattle.std.proofs.Common.{◌≡◌, ℕ, zero, suc, ◌+◌, ◌*◌, ◌<◌, ◌≤◌, pos, Bool, true, List, [], ◌∷◌, Option, None, Some, MatchOption, refl, sym, ap, subst, ◌∙◌, inl, inr, arith}
 use Rattle.std.specs.Option.{option_map}
-use Rattle.std.proofs.lemmas.Bool.{cases_eq, cases_lt, cases_Bool, both_ways, eq-eqb}
+use Rattle.std.proofs.lemmas.Bool.{cases_eq, cases_lt, cases_Bool, both_ways}
 use Rattle.uhura_net.specs.declared.edge.TheConstants.{NODES}
 use Rattle.uhura_net.specs.declared.place.Place.{Place}
 use Rattle.uhura_path.specs.declared.ways.TheConstants.{MOST_COST}
 use Rattle.uhura_path.specs.declared.ways.Arc.{Arc}
 use Rattle.uhura_path.specs.declared.task.TheConstants.{NO_CAP}
-use Rattle.uhura_path.specs.declared.label.Label.{Label}
 use Rattle.uhura_path.specs.declared.label.Step.{Step}
 use Rattle.uhura_path.specs.Ways.{Arcs, turned, directed, IsSoundArc}
 use Rattle.uhura_path.specs.Walk.{IsWalk, HasWalk, NoneIsShorter}
-use Rattle.uhura_path.specs.Found.{label_at, AreDistances}
+use Rattle.uhura_path.specs.Found.{label_at}
 use Rattle.uhura_path.specs.Reach.{IsDistance, told_distance}
 use Rattle.uhura_path.specs.Quest.{Aim}
-use Rattle.uhura_path.specs.Search.{Spread, has_label, reach, node_at, IsClosing, IsSpread, IsOver}
+use Rattle.uhura_path.specs.Search.{Spread, has_label, reach, IsClosing, IsSpread, IsOver}
 use Rattle.uhura_path.proofs.Reaching.{reach-own, reach-free}
 use Rattle.uhura_path.proofs.Noting.{few_listed}
 use Rattle.uhura_path.proofs.Distances.{capped, beyond, within_done, AreDistances-over, NoneIsShorter-distance}

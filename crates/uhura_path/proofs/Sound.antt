@@ -12,7 +12,6 @@ use Rattle.uhura_path.specs.declared.ways.TheConstants.{MOST_COST}
 use Rattle.uhura_path.specs.declared.ways.Ways.TheVariants.{Residual}
 use Rattle.uhura_path.specs.declared.ways.Arc.{Arc}
 use Rattle.uhura_path.specs.Ways.{walkable, ArePotentials, arc_of, arcs_of, turned, directed, IsSoundArc}
-use Rattle.uhura_path.proofs.Backward.{slack_of-backward}
 use Rattle.uhura_path.proofs.Ends.{IsArcOf-arc, IsLeft-residual, IsTurned-arc}
 
 unsigned_abs_le : (z : ℤ) (most : ℕ) → neg_ℤ (pos most) ≤ℤ z → z ≤ℤ pos most → unsigned_abs z ≤ most

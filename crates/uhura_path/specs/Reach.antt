@@ -11,7 +11,8 @@ use Rattle.uhura_path.specs.Found.{IsPathOf}
 -- no walk leads from one node to another
 abbrev pub IsApart : Arcs → ℕ → ℕ → Type 0
 IsApart arcs from to =
-    (places : List Place) (backward : List Bool) (cost : ℕ) → IsWalk arcs from places backward to cost → ⊥
+    (places : List Place) (backward : List Bool) (cost : ℕ) →
+    IsWalk arcs from places backward to cost → ⊥
 
 -- the distance of a node: the least cost of a walk to it, and None where there is none
 abbrev pub IsDistance : Arcs → ℕ → ℕ → Option ℤ → Type 0

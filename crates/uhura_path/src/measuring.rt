@@ -19,7 +19,8 @@ use crate::{Label, Path, PathScratch, Reach, Task, Ways};
 use uhura_net::{NODES, Net};
 
 /// The distance of each node from one, and a shortest path to another, along residual edges by their reduced costs
-/// under the potentials. It takes no memory.
+/// under the potentials. It takes no memory, and works at the nodes and edges that it reaches, but for a distance that
+/// it writes for each node.
 pub fn shortest<'a>(
     net: &Net,
     potentials: &[i64],
@@ -33,7 +34,8 @@ pub fn shortest<'a>(
     requires from { from < NODES }
     requires to { to < NODES }
     requires apart { from ≢ to }
-    ensures { IsReach (arcs_of (walkable Residual net.now) (time_at potentials.now)) from to result }
+    ensures { IsReach (arcs_of (walkable Residual net.now) (time_at potentials.now))
+        from to result }
 {
     let last = measure(
         net,
@@ -100,8 +102,8 @@ fn measure(
     requires labels { length labels.old ≡ NODES }
     requires order { length order.old ≡ NODES }
     requires distances { length distances.old ≡ NODES }
-    ensures distances { AreDistancesFrom (arcs_of (walkable Residual net.now) (time_at potentials.now))
-        from distances.new }
+    ensures distances { AreDistancesFrom
+        (arcs_of (walkable Residual net.now) (time_at potentials.now)) from distances.new }
     ensures marked { AreMarkedTo result labels.new }
 {
     let mark = next_mark(last, labels);

@@ -4,8 +4,8 @@ use std::alloc::{AllocError, Global};
 use std::marker::Model;
 use uhura_net::{NODES, Place};
 
-/// Room for a label for each node, for the nodes in the order in which they are reached, for a path and for distances.
-/// Only `new` takes memory.
+/// Room for a label for each node, for the nodes in the order in which they are reached, for a path and for all
+/// distances. Only `new` takes memory.
 #[derive(Debug, Drop)]
 pub struct PathScratch {
     pub(crate) mark: u32,

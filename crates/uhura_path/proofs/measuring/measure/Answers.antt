@@ -1,4 +1,4 @@
-use Rattle.std.proofs.Common.{ℕ, true, refl}
+use Rattle.std.proofs.Common.{true, refl}
 use Rattle.uhura_net.specs.declared.edge.TheConstants.{NODES}
 use Rattle.uhura_net.specs.Edges.{time_at}
 use Rattle.uhura_path.specs.declared.task.TheConstants.{NO_CAP}

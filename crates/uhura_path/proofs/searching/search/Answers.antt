@@ -1,4 +1,4 @@
-use Rattle.std.proofs.Common.{◌≡◌, ℕ, List, Bool, length, take, refl, sym, ap, subst, ◌∙◌, arith}
+use Rattle.std.proofs.Common.{◌≡◌, List, Bool, length, take, refl, sym, ap, subst, ◌∙◌, arith}
 use Rattle.std.proofs.lemmas.List.{take_at}
 use Rattle.uhura_net.specs.declared.place.Place.{Place}
 use Rattle.uhura_net.specs.Edges.{time_at}
@@ -8,9 +8,9 @@ use Rattle.uhura_path.specs.Walk.{IsPath, IsLeastRoom}
 use Rattle.uhura_net.specs.declared.edge.TheConstants.{NODES}
 use Rattle.uhura_path.specs.Scratch.{AreMarkedTo}
 use Rattle.uhura_path.specs.Quest.{Aim}
-use Rattle.uhura_path.specs.Search.{IsOver, IsClosed}
+use Rattle.uhura_path.specs.Search.{IsClosed}
 use Rattle.uhura_path.proofs.Backtrack.{IsClosing-found}
-use Rattle.uhura_path.proofs.Finding.{HandsOut, IsFound-over}
+use Rattle.uhura_path.proofs.Finding.{IsFound-over}
 use Rattle.uhura_path.proofs.searching.search.Goals as goal
 
 pub returns-in_default : goal.returns-in_default

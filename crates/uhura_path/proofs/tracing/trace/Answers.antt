@@ -1,10 +1,9 @@
-use Rattle.std.proofs.Common.{◌≡◌, ℕ, ◌+◌, ◌^◌, ◌<◌, ◌≤◌, min, List, length, take, set, None, Some, Fits, w64, refl, sym, subst, ◌∙◌, arith, rules}
+use Rattle.std.proofs.Common.{◌≡◌, ℕ, ◌+◌, ◌<◌, min, length, take, set, None, Some, Fits, w64, refl, sym, subst, ◌∙◌, arith, rules}
 use Rattle.uhura_net.specs.Edges.{time_at}
-use Rattle.uhura_path.specs.declared.front.Front.{Front}
 use Rattle.uhura_path.specs.Ways.{Arcs, walkable, arcs_of}
-use Rattle.uhura_path.specs.Walk.{IsPath, IsLeastRoom}
+use Rattle.uhura_path.specs.Walk.{IsLeastRoom}
 use Rattle.uhura_path.specs.Found.{label_at}
-use Rattle.uhura_path.specs.Quest.{Aim, aim_of}
+use Rattle.uhura_path.specs.Quest.{aim_of}
 use Rattle.uhura_path.specs.Search.{Spread}
 use Rattle.uhura_path.proofs.Ends.{AreOpposite-arcs, AreOpposite-directed}
 use Rattle.uhura_path.proofs.Backtrack.{IsTraced, few_done, IsTraced-first, IsTraced-more, IsPath-traced}
