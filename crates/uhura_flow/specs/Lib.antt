@@ -1,0 +1,6 @@
+pub mod Flow
+pub mod Changes
+pub mod Reading
+pub mod Narrowed
+pub mod Potentials
+pub mod Turns
