@@ -6,3 +6,5 @@ mod Rounds
 mod Marking
 mod Kept
 mod Cycling
+mod Ways
+mod Trails
