@@ -1,5 +1,5 @@
 -- What is kept of potentials.
-use Rattle.std.proofs.Common.{◌≡◌, ℕ, ◌+◌, ◌*◌, ◌<◌, ◌≤◌, Bool, true, false, cond, ℤ, pos, negsuc, ◌+ℤ◌, ◌-ℤ◌, ◌≤ℤ◌, List, length, get_or, replicate, to_z, of_z, w64, refl, sym, subst, ap, ◌∙◌, arith}
+use Rattle.std.proofs.Common.{◌≡◌, ℕ, ◌+◌, ◌*◌, ◌<◌, ◌≤◌, min, Bool, true, false, cond, ℤ, pos, negsuc, ◌+ℤ◌, ◌-ℤ◌, ◌≤ℤ◌, List, length, get_or, replicate, to_z, of_z, w64, refl, sym, subst, ap, ◌∙◌, inl, inr, arith}
 use Rattle.std.proofs.lemmas.Int.{ints}
 use Rattle.std.proofs.lemmas.List.{get_or_default, length-replicate}
 use Rattle.uhura_plan.proofs.Slots.{get_or-replicate_default}
@@ -10,6 +10,11 @@ use Rattle.uhura_net.specs.Edges.{Edges, time_at}
 use Rattle.uhura_net.specs.Optimal.{slack_of}
 use Rattle.uhura_net.specs.Net.{IsNetEdge}
 use Rattle.uhura_net.proofs.Sums.{sum_below-most}
+use Rattle.std.proofs.lemmas.Bool.{cases_lt}
+use Rattle.uhura_path.specs.declared.ways.TheConstants.{MOST_POTENTIAL}
+use Rattle.uhura_path.specs.declared.task.TheConstants.{NO_CAP}
+use Rattle.uhura_path.specs.Ways.{ArePotentials}
+use Rattle.uhura_path.specs.Found.{IsLifted}
 use Rattle.uhura_flow.specs.declared.potentials.TheConstants.{HIGHEST}
 use Rattle.uhura_flow.specs.Reading.{is_touched, touched_nodes}
 use Rattle.uhura_flow.specs.Narrowed.{wide, AreNarrowed}
@@ -49,8 +54,8 @@ IsKeptBelow-narrowed edges before after written marks written_marks narrowed roo
 -- the slack as it is read
 pub record IsSlackRead (result : ℤ) (potentials : List ℤ) (edge : Edge) : Type 0 where
   pub is : to_z w64 (of_z w64 result) ≡ slack_of (time_at potentials) edge
-  pub least : negsuc 10001999999999 ≤ℤ to_z w64 (of_z w64 result)
-  pub most : to_z w64 (of_z w64 result) ≤ℤ pos 10002000000000
+  pub least : negsuc 1000010001999999999 ≤ℤ to_z w64 (of_z w64 result)
+  pub most : to_z w64 (of_z w64 result) ≤ℤ pos 1000010002000000000
 
 -- a potential as it is read
 potential_read : (z at : ℤ) → z ≡ at → pos 0 ≤ℤ at → at ≤ℤ pos HIGHEST → to_z w64 (of_z w64 z) ≡ at
@@ -60,7 +65,7 @@ bound_read : (z : ℤ) → negsuc 1999999999 ≤ℤ z → z ≤ℤ pos 200000000
 bound_read z least most = omega (arith, ints)
 
 slack_is_read : (result bound from to : ℤ) → result ≡ bound -ℤ (to -ℤ from) → negsuc 1999999999 ≤ℤ bound → bound ≤ℤ pos 2000000000 → (pos 0 ≤ℤ from) × (from ≤ℤ pos HIGHEST) →
-    (pos 0 ≤ℤ to) × (to ≤ℤ pos HIGHEST) → (to_z w64 (of_z w64 result) ≡ bound -ℤ (to -ℤ from)) × (negsuc 10001999999999 ≤ℤ (bound -ℤ (to -ℤ from))) × ((bound -ℤ (to -ℤ from)) ≤ℤ pos 10002000000000)
+    (pos 0 ≤ℤ to) × (to ≤ℤ pos HIGHEST) → (to_z w64 (of_z w64 result) ≡ bound -ℤ (to -ℤ from)) × (negsuc 1000010001999999999 ≤ℤ (bound -ℤ (to -ℤ from))) × ((bound -ℤ (to -ℤ from)) ≤ℤ pos 1000010002000000000)
 slack_is_read result bound from to is least most from_in to_in =
     (omega (arith, ints, from_in.0, from_in.1, to_in.0, to_in.1), omega (arith, ints, from_in.0, from_in.1, to_in.0, to_in.1), omega (arith, ints, from_in.0, from_in.1, to_in.0, to_in.1))
 
@@ -80,6 +85,44 @@ slack_read values highest touched edge from to result kept sound from_is to_is i
     let all = slack_is_read result edge.bound (time_at values edge.from) (time_at values edge.to) read sound.least sound.most (within edge.from) (within edge.to) in
     record {
       is = all.0;
-      least = subst (λ (z : ℤ). negsuc 10001999999999 ≤ℤ z) (sym all.0) all.1;
-      most = subst (λ (z : ℤ). z ≤ℤ pos 10002000000000) (sym all.0) all.2;
+      least = subst (λ (z : ℤ). negsuc 1000010001999999999 ≤ℤ z) (sym all.0) all.1;
+      most = subst (λ (z : ℤ). z ≤ℤ pos 1000010002000000000) (sym all.0) all.2;
     }
+
+-- potentials that are low enough for a search
+pub ArePotentials-low : (potentials : List ℤ) (highest : ℕ) (touched : List Bool) → IsKeptBelow potentials highest touched → highest ≤ MOST_POTENTIAL → ArePotentials potentials
+ArePotentials-low potentials highest touched kept low = record {
+  nodes = kept.nodes;
+  least = λ node. omega (arith, ints, (kept.within node).0);
+  most = λ node. omega (arith, ints, (kept.within node).1, low);
+}
+
+pub ArePotentials-narrowed : (edges : Edges) (before after : List ℤ) → AreNarrowed edges before after → ArePotentials after
+ArePotentials-narrowed edges before after narrowed =
+    let low : wide * touched_nodes edges ≤ MOST_POTENTIAL = omega (arith, few_touched edges) in
+    record {
+      nodes = narrowed.nodes;
+      least = λ node. omega (arith, ints, (narrowed.range node).0);
+      most = λ node. omega (arith, ints, (narrowed.range node).1, low);
+    }
+
+lifted_most : (before after : ℤ) (highest cost distance : ℕ) → after ≡ before +ℤ (pos cost -ℤ pos distance) → before ≤ℤ pos highest → before ≤ℤ pos MOST_POTENTIAL →
+    after ≤ℤ pos (min highest MOST_POTENTIAL + cost)
+lifted_most before after highest cost distance is below low =
+    elim (cases_lt highest MOST_POTENTIAL) [
+      | inl less ↦ omega (arith, ints, is, below, less)
+      | inr more ↦ omega (arith, ints, is, low, more)
+    ]
+
+-- a lift raises none by more than the cost
+pub IsKeptBelow-lifted : (before after written : List ℤ) (highest cost : ℕ) (touched : List Bool) (distance : ℕ → ℕ) → IsKeptBelow before highest touched → ArePotentials before →
+    length after ≡ NODES → IsLifted cost distance (time_at before) (time_at after) → ((node : ℕ) → distance node ≤ cost) → cost ≤ NO_CAP → written ≡ after →
+    IsKeptBelow written (min highest MOST_POTENTIAL + cost) touched
+IsKeptBelow-lifted before after written highest cost touched distance kept low nodes lifted near few is = record {
+  nodes = ap length is ∙ nodes;
+  within = λ node.
+      let same : time_at written node ≡ time_at after node = ap (λ l. time_at l node) is in
+      (omega (arith, ints, same, lifted node, (kept.within node).0, near node), lifted_most (time_at before node) (time_at written node) highest cost (distance node) (same ∙ lifted node) (kept.within node).1 (low.most node));
+  small = omega (arith, few);
+  marks = kept.marks;
+}

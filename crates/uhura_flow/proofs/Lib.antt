@@ -8,3 +8,5 @@ mod Kept
 mod Cycling
 mod Ways
 mod Trails
+mod Readiness
+mod Looping

@@ -4,3 +4,4 @@ pub mod Reading
 pub mod Narrowed
 pub mod Potentials
 pub mod Turns
+pub mod Loops

@@ -29,6 +29,10 @@ pub record AreNarrowed (edges : Edges) (before after : List ℤ) : Type 0 where
   pub range : AreWithin (wide * touched_nodes edges) (time_at after)
   pub nodes : length after ≡ NODES
 
+-- they are as before, or narrowed
+abbrev pub ArePrepared : Edges → List ℤ → List ℤ → Type 0
+ArePrepared edges before after = (after ≡ before) ⊎ AreNarrowed edges before after
+
 -- the nodes that edges at the first places touch are marked
 pub record AreMarked (places : ℕ) (edges : Edges) (marks : List Bool) : Type 0 where
   pub nodes : length marks ≡ NODES

@@ -1,5 +1,5 @@
 -- Units that are sent through one place, whose capacity stands at its units meanwhile.
-use Rattle.std.specs.Prelude.{ℕ, ◌+◌, ◌<◌, ◌≤◌, ◌≡◌, ◌≢◌, Bool, true, false, ℤ, pos, ◌≤ℤ◌, List, length, Option, Some, if◌then◌else◌, slice_set}
+use Rattle.std.specs.Prelude.{ℕ, ◌+◌, ◌*◌, ◌<◌, ◌≤◌, ◌≡◌, ◌≢◌, Bool, true, false, ℤ, pos, ◌+ℤ◌, ◌-ℤ◌, ◌≤ℤ◌, List, length, Option, Some, if◌then◌else◌, slice_set}
 use Rattle.std.specs.List.{All, IsDistinct}
 use Rattle.uhura_net.specs.declared.edge.TheConstants.{NODES, FIRM_CAPACITY}
 use Rattle.uhura_net.specs.declared.edge.Edge.{Edge}
@@ -11,6 +11,7 @@ use Rattle.uhura_net.specs.Circulation.{edges_of, units_of}
 use Rattle.uhura_net.specs.Residual.{is_same_place, place_at, IsMoved}
 use Rattle.uhura_net.specs.Optimal.{slack_of, IsOptimal}
 use Rattle.uhura_net.specs.Net.{NetState, IsNetEdge, IsNet, net_walk}
+use Rattle.uhura_path.specs.declared.ways.TheConstants.{MOST_COST}
 use Rattle.uhura_flow.specs.declared.through.Through.{Through}
 
 -- an edge with a capacity
@@ -69,3 +70,38 @@ pub record IsSent (old new : NetState) (potentials : List ℤ) (through : Throug
       (units_of old.units through.place.0) (units_of new.units through.place.0)
   pub more : old.pushes ≤ new.pushes
   pub few : new.pushes ≤ old.pushes + 1
+
+-- what the potential of an edge's end is above that of its start fell by a number, or rose by it
+abbrev pub IsShifted : Bool → ℕ → Edge → List ℤ → List ℤ → Type 0
+IsShifted false reach edge before after =
+    (time_at after edge.to -ℤ time_at after edge.from) ≡
+    ((time_at before edge.to -ℤ time_at before edge.from) -ℤ pos reach)
+IsShifted true reach edge before after =
+    (time_at after edge.to -ℤ time_at after edge.from) ≡
+    ((time_at before edge.to -ℤ time_at before edge.from) +ℤ pos reach)
+
+-- a unit or more was moved by one push, but not more than some number
+pub record IsMovedOnce (old new : NetState) (place : ℕ) (back : Bool) (most : ℕ) : Type 0 where
+  pub amount : ℕ
+  pub some : 1 ≤ amount
+  pub few : amount ≤ most
+  pub moved : IsMoved amount back (units_of old.units place) (units_of new.units place)
+  pub more : old.pushes ≤ new.pushes
+  pub once : new.pushes ≤ old.pushes + 1
+
+-- What comes of a turn: units were moved, or the path would have cost the cap and the net is as before.
+abbrev pub IsOutcome : NetState → NetState → ℕ → Bool → ℕ → ℕ → ℕ → Bool → Type 0
+IsOutcome old new place back reach cap most true = IsMovedOnce old new place back most
+IsOutcome old new place back reach cap most false = (reach ≡ cap) × (new ≡ old)
+
+-- A turn of units through a place. Where they go back, a path to its end is never far.
+pub record IsTurn (old : NetState) (before : List ℤ) (new : NetState) (after : List ℤ) (through : Through)
+    (cap most : ℕ) (moved : Bool) : Type 0 where
+  pub held : IsHeld new after through.place.0 through.edge
+  pub edges : new.edges ≡
+      edges_held old through.place.0 through.edge (units_of new.units through.place.0)
+  pub reach : ℕ
+  pub near : reach ≤ cap
+  pub shifted : IsShifted through.back reach through.edge before after
+  pub never_far : through.back ≡ true → reach ≤ NODES * MOST_COST
+  pub outcome : IsOutcome old new through.place.0 through.back reach cap most moved
