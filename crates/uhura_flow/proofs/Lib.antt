@@ -10,3 +10,4 @@ mod Ways
 mod Trails
 mod Readiness
 mod Looping
+mod Emptied

@@ -52,20 +52,24 @@ some_below_zero : (z : ℤ) (n : ℕ) → n ≡ below_zero z → n ≢ 0 → pos
 some_below_zero (pos m) n is some = absurd (some is)
 some_below_zero (negsuc m) n is some = ap pos is
 
-none_above_zero : (z : ℤ) → above_zero z ≡ 0 → z ≤ℤ pos 0
+pub none_above_zero : (z : ℤ) → above_zero z ≡ 0 → z ≤ℤ pos 0
 none_above_zero (pos n) none = omega (arith, ints, none)
 none_above_zero (negsuc n) none = omega (arith, ints)
 
-above_zero-pos : (z : ℤ) → pos 0 ≤ℤ z → pos (above_zero z) ≡ z
+pub above_zero-pos : (z : ℤ) → pos 0 ≤ℤ z → pos (above_zero z) ≡ z
 above_zero-pos (pos n) more = refl
 above_zero-pos (negsuc n) more = absurd (omega (arith, ints, more))
+
+pub above_few : (z : ℤ) → z ≤ℤ pos 30000000000000 → above_zero z ≤ NO_CAP
+above_few (pos n) less = omega (arith, ints, less)
+above_few (negsuc n) less = omega arith
 
 below_few : (z : ℤ) → neg_ℤ (pos 30000000000000) ≤ℤ z → below_zero z ≤ NO_CAP
 below_few (pos n) more = omega arith
 below_few (negsuc n) more = omega (arith, ints, more)
 
 -- an edge that is there spans no more than is wide, between touched nodes
-narrow_at : (net : NetState) (place : ℕ) (edge : Edge) → IsNet net → edges_of net.edges place ≡ Some edge → IsNarrow (is_touched PLACES (edges_of net.edges)) edge
+pub narrow_at : (net : NetState) (place : ℕ) (edge : Edge) → IsNet net → edges_of net.edges place ≡ Some edge → IsNarrow (is_touched PLACES (edges_of net.edges)) edge
 narrow_at net place edge sound is =
     let of_net : IsNetEdge edge = subst (λ e. IfSome e IsNetEdge) is (sound.each place) in
     let ends = touched_ends PLACES (edges_of net.edges) place edge (inside_where_there net place edge sound is) is in
