@@ -11,3 +11,4 @@ mod Trails
 mod Readiness
 mod Looping
 mod Emptied
+mod Settling

@@ -47,7 +47,6 @@ pub record IsRefused (old new : FlowState) (place : ℕ) (edge : Edge) : Type 0 
   pub walk : IsNegativeWalk (firm_edges (edges_of (edges_with old place (Some edge)))) new.cycle
   pub through : Contains new.cycle (record { 0 = place })
   pub net : new.net ≡ old.net
-  pub potentials : new.potentials ≡ old.potentials
   pub settles : new.settles ≡ min (old.settles + 1) (2 ^ 64 - 1)
 
 -- what comes of an edge at a place

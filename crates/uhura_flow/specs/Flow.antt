@@ -44,12 +44,16 @@ AreWithin most potentials =
 
 -- The units are a circulation, and they and the potentials show each other optimal. The potentials keep each edge
 -- that isn't loose.
-pub record IsFlow (flow : FlowState) : Type 0 where
-  pub net : IsNet flow.net
-  pub placed : AreFlowEdges flow.net.edges
-  pub nodes : length flow.potentials ≡ NODES
-  pub optimal : IsOptimal (flow_edges flow) (flow_units flow) (flow_potentials flow)
-  pub kept : AreKept (firm_edges (flow_edges flow)) (flow_potentials flow)
+pub record IsOptimalNet (net : NetState) (potentials : List ℤ) : Type 0 where
+  pub sound : IsNet net
+  pub placed : AreFlowEdges net.edges
+  pub nodes : length potentials ≡ NODES
+  pub optimal : IsOptimal (edges_of net.edges) (units_of net.units) (time_at potentials)
+  pub kept : AreKept (firm_edges (edges_of net.edges)) (time_at potentials)
+
+-- and so of a flow
+abbrev pub IsFlow : FlowState → Type 0
+IsFlow flow = IsOptimalNet flow.net flow.potentials
 
 -- a flow without an edge
 abbrev pub empty_flow : FlowState

@@ -5,3 +5,4 @@ pub mod Narrowed
 pub mod Potentials
 pub mod Turns
 pub mod Loops
+pub mod Placing

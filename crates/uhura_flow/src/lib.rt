@@ -4,6 +4,7 @@
 mod draining;
 mod filling;
 mod narrowing;
+mod placing;
 mod potentials;
 mod reading;
 mod room;
