@@ -61,7 +61,7 @@ pub record IsSlackRead (result : ℤ) (potentials : List ℤ) (edge : Edge) : Ty
 potential_read : (z at : ℤ) → z ≡ at → pos 0 ≤ℤ at → at ≤ℤ pos HIGHEST → to_z w64 (of_z w64 z) ≡ at
 potential_read z at is least most = omega (arith, ints)
 
-bound_read : (z : ℤ) → negsuc 1999999999 ≤ℤ z → z ≤ℤ pos 2000000000 → to_z w64 (of_z w64 z) ≡ z
+pub bound_read : (z : ℤ) → negsuc 1999999999 ≤ℤ z → z ≤ℤ pos 2000000000 → to_z w64 (of_z w64 z) ≡ z
 bound_read z least most = omega (arith, ints)
 
 slack_is_read : (result bound from to : ℤ) → result ≡ bound -ℤ (to -ℤ from) → negsuc 1999999999 ≤ℤ bound → bound ≤ℤ pos 2000000000 → (pos 0 ≤ℤ from) × (from ≤ℤ pos HIGHEST) →

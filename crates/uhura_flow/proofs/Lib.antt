@@ -12,3 +12,5 @@ mod Readiness
 mod Looping
 mod Emptied
 mod Settling
+mod Closing
+mod Changing

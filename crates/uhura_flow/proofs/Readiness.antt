@@ -51,7 +51,7 @@ ones zero = refl
 ones (suc n) = omega (arith, ones n)
 
 -- so there are no more numbers that differ below some number
-few_differ : (count n : ℕ) (f : ℕ → ℕ) → ((i j : ℕ) → i < j → j < count → f i ≢ f j) → ((i : ℕ) → i < count → f i < n) → count ≤ n
+pub few_differ : (count n : ℕ) (f : ℕ → ℕ) → ((i j : ℕ) → i < j → j < count → f i ≢ f j) → ((i : ℕ) → i < count → f i < n) → count ≤ n
 few_differ count n f differ below =
     let each : count * 1 ≤ sum_below count (λ i. sum_below n (λ v. cond (eqb (f i) v) 1 0)) =
     omega (
@@ -65,7 +65,7 @@ few_differ count n f differ below =
     omega (arith, each, turned, most)
 
 -- an edge that is there is one of a net
-net_edge_at : (net : NetState) (place : ℕ) (edge : Edge) → IsNet net → edges_of net.edges place ≡ Some edge → IsNetEdge edge
+pub net_edge_at : (net : NetState) (place : ℕ) (edge : Edge) → IsNet net → edges_of net.edges place ≡ Some edge → IsNetEdge edge
 net_edge_at net place edge sound is = subst (λ e. IfSome e IsNetEdge) is (sound.each place)
 
 -- a residual edge of one begins at a node
@@ -118,7 +118,7 @@ apart_by net potentials false places backward cost cap place edge there path les
     (omega (arith, ints, less, forth refl))
 
 -- a place with units that stand at its capacity has no slack above 0
-held_side : (net : NetState) (potentials : List ℤ) (place : ℕ) (edge : Edge) → IsHeld net potentials place edge → 1 ≤ units_of net.units place → slack_of (time_at potentials) edge ≤ℤ pos 0
+pub held_side : (net : NetState) (potentials : List ℤ) (place : ℕ) (edge : Edge) → IsHeld net potentials place edge → 1 ≤ units_of net.units place → slack_of (time_at potentials) edge ≤ℤ pos 0
 held_side net potentials place edge held some =
     let here : edge_at (edges_of net.edges) place ≡ with_capacity edge (units_of net.units place) = ap (λ e. unwrap_or e no_edge) held.there in
     subst (λ (e : Edge). slack_of (time_at potentials) e ≤ℤ pos 0) here ((held.optimal place).used some)

@@ -1,5 +1,5 @@
 -- A circulation with potentials, which show each other optimal.
-use Rattle.std.specs.Prelude.{ℕ, ◌≤◌, ◌≡◌, ℤ, pos, ◌≤ℤ◌, List, [], Option, None, IfSome, length, replicate, slice_index_or}
+use Rattle.std.specs.Prelude.{ℕ, ◌+◌, ◌≤◌, ◌≡◌, ℤ, pos, ◌≤ℤ◌, List, [], Option, None, IfSome, length, replicate, slice_index_or}
 use Rattle.uhura_net.specs.declared.edge.TheConstants.{NODES}
 use Rattle.uhura_net.specs.declared.edge.Edge.{Edge}
 use Rattle.uhura_net.specs.declared.place.Place.{Place}
@@ -59,3 +59,9 @@ IsFlow flow = IsOptimalNet flow.net flow.potentials
 abbrev pub empty_flow : FlowState
 empty_flow =
     record { net = empty_net; potentials = replicate NODES (pos 0); settles = 0; cycle = [] }
+
+-- what is kept of a flow: all is optimal, and there is room for a closed walk
+pub record IsKeptFlow (net : NetState) (potentials : List ℤ) (room steps : ℕ) : Type 0 where
+  pub sound : IsOptimalNet net potentials
+  pub enough : room ≡ NODES + 1
+  pub few : steps ≤ room

@@ -6,3 +6,4 @@ pub mod Potentials
 pub mod Turns
 pub mod Loops
 pub mod Placing
+pub mod Told

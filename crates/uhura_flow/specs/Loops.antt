@@ -13,9 +13,13 @@ abbrev pub above_zero : ℤ → ℕ
 above_zero (pos n) = n
 above_zero (negsuc n) = 0
 
+-- an edge with a bound
+abbrev pub with_bound : Edge → ℤ → Edge
+with_bound edge bound = record edge { bound = bound }
+
 -- the slack of an edge under a bound
 abbrev pub slack_under : List ℤ → Edge → ℤ → ℤ
-slack_under potentials edge bound = slack_of (time_at potentials) (record edge { bound = bound })
+slack_under potentials edge bound = slack_of (time_at potentials) (with_bound edge bound)
 
 -- units were added at the place, up to a number, with at most one push for each
 pub record IsFilled (old new : NetState) (after : List ℤ) (place : ℕ) (edge : Edge) (most : ℕ) : Type 0 where

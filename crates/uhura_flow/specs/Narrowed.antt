@@ -1,7 +1,9 @@
 -- Potentials whose gaps are narrowed.
 use Rattle.std.specs.Prelude.{ℕ, ◌*◌, ◌<◌, ◌≤◌, ◌≡◌, ◌⊎◌, Bool, true, false, if◌then◌else◌, ℤ, pos, neg_ℤ, ◌+ℤ◌, ◌-ℤ◌, ◌≤ℤ◌, ◌<ℤ◌, int_lt, List, length, slice_index_or, Option, None, Some}
 use Rattle.uhura_net.specs.declared.edge.TheConstants.{NODES}
+use Rattle.uhura_net.specs.declared.edge.Edge.{Edge}
 use Rattle.uhura_net.specs.declared.place.TheConstants.{PLACES}
+use Rattle.uhura_net.specs.Net.{IsNetEdge}
 use Rattle.uhura_net.specs.Edges.{Edges, time_at}
 use Rattle.uhura_flow.specs.Flow.{AreWithin}
 use Rattle.uhura_flow.specs.Reading.{is_touched, touched_nodes}
@@ -87,3 +89,11 @@ pub record AreLowered (level by : ℤ) (before after : List ℤ) : Type 0 where
   pub nodes : length after ≡ length before
   pub each : (node : ℕ) → node < length before →
       time_at after node ≡ lowered_to level by (time_at before node)
+
+-- there is an edge
+pub record HasEdge (edges : Edges) : Type 0 where
+  pub place : ℕ
+  pub inside : place < PLACES
+  pub edge : Edge
+  pub of_net : IsNetEdge edge
+  pub there : edges place ≡ Some edge

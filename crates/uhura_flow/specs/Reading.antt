@@ -23,17 +23,13 @@ is_touched (suc n) edges node = is_touched n edges node || touches (edges n) nod
 abbrev pub touched_nodes : Edges → ℕ
 touched_nodes edges = sum_below NODES (λ node. if is_touched PLACES edges node then 1 else 0)
 
--- The value is what the loose edges pay for what the potentials pass their bounds by. The potentials, one for each
--- node, keep each edge that isn't loose, and lie from 0 to 2,000,000,000 times the number of touched nodes. The edges,
--- their units and the pushes are as before.
-pub record IsReading (old new : FlowState) (value : ℤ) (potentials : List ℤ) : Type 0 where
+-- The value is what the loose edges pay for what the potentials pass their bounds by. The potentials lie from 0 to
+-- 2,000,000,000 times the number of touched nodes. The edges, their units and the pushes are as before.
+pub record IsReading (old new : FlowState) (value : ℤ) : Type 0 where
   pub sound : IsFlow new
   pub worth : value ≡ net_value new.net
-  pub paid : value ≡ pos (loose_excess PLACES (flow_edges new) (time_at potentials))
-  pub nodes : length potentials ≡ NODES
-  pub kept : AreKept (firm_edges (flow_edges new)) (time_at potentials)
-  pub optimal : IsOptimal (flow_edges new) (flow_units new) (time_at potentials)
-  pub range : AreWithin (2000000000 * touched_nodes (flow_edges new)) (time_at potentials)
+  pub paid : value ≡ pos (loose_excess PLACES (flow_edges new) (flow_potentials new))
+  pub range : AreWithin (2000000000 * touched_nodes (flow_edges new)) (flow_potentials new)
   pub net : new.net ≡ old.net
   pub cycle : new.cycle ≡ old.cycle
   pub settles : new.settles ≡ min (old.settles + 1) (2 ^ 64 - 1)

@@ -3,17 +3,18 @@
 
 mod draining;
 mod filling;
+mod flow;
 mod narrowing;
 mod placing;
 mod potentials;
-mod reading;
 mod room;
 mod round;
 mod sending;
 mod settled;
+mod stuck;
 mod through;
 mod turning;
 
-pub use reading::Reading;
+pub use flow::Flow;
 pub use settled::Settled;
 pub(crate) use through::Through;

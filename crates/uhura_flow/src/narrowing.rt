@@ -1,11 +1,11 @@
 //! Narrowing the gaps between potentials.
-ghost use Rattle.std.specs.Prelude.{◌≡◌, ◌+◌, ◌<◌, ℕ, ◌^◌, ◌||◌, false, ℤ, pos, ◌+ℤ◌, ◌-ℤ◌, ◌≤ℤ◌, ◌<ℤ◌, length, slice_index_or, List, IfSome};
+ghost use Rattle.std.specs.Prelude.{◌≡◌, ◌+◌, ◌<◌, ℕ, ◌^◌, ◌||◌, false, ℤ, pos, ◌+ℤ◌, ◌-ℤ◌, ◌≤ℤ◌, ◌<ℤ◌, length, slice_index_or, List, IfSome, IsTrue};
 ghost use Rattle.uhura_net.specs.Edges.{time_at};
 ghost use Rattle.uhura_net.specs.Circulation.{edges_of};
 ghost use Rattle.uhura_net.specs.Net.{IsNetEdge};
 ghost use Rattle.uhura_flow.specs.Flow.{AreWithin};
 ghost use Rattle.uhura_flow.specs.Reading.{touches};
-ghost use Rattle.uhura_flow.specs.Narrowed.{wide, AreNarrowed, AreMarked, AreCleared, IsLeast, IsLeastAbove, IsGapNarrowed, lowered_to, AreLowered};
+ghost use Rattle.uhura_flow.specs.Narrowed.{wide, AreNarrowed, AreMarked, AreCleared, IsLeast, IsLeastAbove, IsGapNarrowed, lowered_to, AreLowered, HasEdge};
 
 use uhura_net::{Edge, NODES, Net, PLACES, Place};
 
@@ -149,4 +149,16 @@ fn lowered(potential: i64, level: i64, by: i64) -> i64
     } else {
         potential
     }
+}
+
+/// Whether there is an edge.
+pub(crate) fn has_edge(net: &Net) -> bool
+    ensures { IsTrue result → HasEdge (edges_of net.now.edges) }
+{
+    for number in 0..PLACES {
+        if net.edge(Place(number as u32)).is_some() {
+            return true;
+        }
+    }
+    false
 }

@@ -1,16 +1,17 @@
 //! The potentials of a flow.
-ghost use Rattle.std.specs.Prelude.{◌≡◌, ℕ, ◌<◌, ℤ, pos, negsuc, ◌-ℤ◌, ◌≤ℤ◌, length, replicate, IfOk};
+ghost use Rattle.std.specs.Prelude.{◌≡◌, ℕ, ◌*◌, ◌<◌, ℤ, pos, negsuc, ◌-ℤ◌, ◌≤ℤ◌, length, replicate, IfOk};
 ghost use Rattle.uhura_net.specs.Edges.{time_at};
 ghost use Rattle.uhura_net.specs.Circulation.{edges_of};
 ghost use Rattle.uhura_net.specs.Optimal.{slack_of, below_zero, excess_of};
 ghost use Rattle.uhura_net.specs.Net.{IsNetEdge};
 ghost use Rattle.uhura_flow.specs.Flow.{AreWithin};
-ghost use Rattle.uhura_flow.specs.Narrowed.{AreNarrowed, ArePrepared};
+ghost use Rattle.uhura_flow.specs.Narrowed.{wide, AreNarrowed, ArePrepared};
+ghost use Rattle.uhura_flow.specs.Reading.{touched_nodes};
 ghost use Rattle.uhura_flow.specs.Loops.{above_zero};
 ghost use Rattle.uhura_path.specs.Ways.{ArePotentials};
 ghost use Rattle.uhura_path.specs.Found.{IsReached, IsLifted};
 
-use crate::narrowing::{WIDE, narrow};
+use crate::narrowing::{WIDE, has_edge, narrow};
 use std::alloc::{AllocError, Global};
 use std::marker::Model;
 use uhura_net::{Edge, NODES, Net};
@@ -108,6 +109,17 @@ impl Potentials {
         ensures prepared { ArePrepared (edges_of net.now.edges) self.old self.new }
     {
         if self.highest > MOST_POTENTIAL {
+            self.narrow(net);
+        }
+    }
+
+    /// Narrows wide gaps where the potentials may be higher than a wide gap for each node that an edge touches.
+    pub(crate) fn bring_down(&mut self, net: &Net)
+        ensures prepared { ArePrepared (edges_of net.now.edges) self.old self.new }
+        ensures range { AreWithin (wide * touched_nodes (edges_of net.now.edges))
+            (time_at self.new) }
+    {
+        if self.highest > WIDE as u64 || !has_edge(net) {
             self.narrow(net);
         }
     }
