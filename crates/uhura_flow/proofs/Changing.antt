@@ -1,28 +1,26 @@
 -- What a change leaves of a flow.
-use Rattle.std.proofs.Common.{◌≡◌, ℕ, ◌+◌, ◌*◌, ◌-◌, ◌^◌, ◌<◌, ◌≤◌, min, Bool, true, false, cond, ℤ, pos, ◌≤ℤ◌, List, [], length, get_or, replicate, take, Option, None, Some, IfSome, unwrap_or, refl, sym, ap, subst, ◌∙◌, arith}
+use Rattle.std.proofs.Common.{◌≡◌, ℕ, ◌+◌, ◌*◌, ◌-◌, ◌^◌, ◌≤◌, min, Bool, true, false, cond, ℤ, pos, List, length, replicate, Option, None, Some, IfSome, unwrap_or, sym, ap, subst, ◌∙◌, inl, inr, arith}
 use Rattle.std.proofs.lemmas.Int.{ints}
 use Rattle.std.proofs.lemmas.List.{length-replicate}
 use Rattle.uhura_plan.proofs.Slots.{get_or-replicate_default}
 use Rattle.uhura_net.specs.declared.edge.TheConstants.{NODES}
 use Rattle.uhura_net.specs.declared.edge.Edge.{Edge}
 use Rattle.uhura_net.specs.declared.place.TheConstants.{PLACES}
-use Rattle.uhura_net.specs.declared.place.Place.{Place}
 use Rattle.uhura_net.specs.Place.{is_loose}
-use Rattle.uhura_net.specs.Sums.{sum_below}
-use Rattle.uhura_net.specs.Edges.{Edges, no_edge, edge_at, time_at, AreKept}
-use Rattle.uhura_net.specs.Circulation.{edges_of, units_of}
-use Rattle.uhura_net.specs.Optimal.{slack_of, IsOptimalAt, IsOptimal, firm_edges, loose_excess}
-use Rattle.uhura_net.specs.Net.{NetState, IsNetEdge, IsNet, net_value, empty_net}
+use Rattle.uhura_net.specs.Edges.{Edges, no_edge, edge_at, time_at}
+use Rattle.uhura_net.specs.Circulation.{edges_of}
+use Rattle.uhura_net.specs.Optimal.{firm_edges}
+use Rattle.uhura_net.specs.Net.{NetState, IsNet, net_value, empty_net}
 use Rattle.uhura_net.proofs.Walks.{none_meet}
 use Rattle.uhura_net.proofs.Paying.{optimal_value}
 use Rattle.uhura_net.proofs.Sums.{term_le}
-use Rattle.uhura_flow.specs.Flow.{FlowState, flow_edges, flow_units, AreWithin, IsFlowEdge, AreFlowEdges, IsOptimalNet, IsFlow}
-use Rattle.uhura_flow.specs.Changes.{rebounded, repriced, HasNoFirmCycle, IsChanged, IsRefused}
+use Rattle.uhura_flow.specs.Flow.{FlowState, flow_edges, flow_units, AreWithin, IsFlowEdge, IsOptimalNet, IsFlow}
+use Rattle.uhura_flow.specs.Changes.{rebounded, repriced, HasNoFirmCycle, IsChanged}
 use Rattle.uhura_flow.specs.Turns.{with_capacity}
 use Rattle.uhura_flow.specs.Loops.{with_bound}
 use Rattle.uhura_flow.specs.Reading.{is_touched, touched_nodes, IsReading}
 use Rattle.uhura_flow.specs.Narrowed.{wide, ArePrepared, HasEdge}
-use Rattle.uhura_flow.specs.Placing.{IsPlaced, IsStuckWalk, IsStuckFound}
+use Rattle.uhura_flow.specs.Placing.{IsPlaced}
 use Rattle.uhura_flow.proofs.Marking.{touched_ends}
 use Rattle.uhura_flow.proofs.Looping.{IsOptimal-prepared, AreKept-prepared}
 
@@ -109,7 +107,13 @@ rebounded_is flow place old bound read there is =
     let here : edge_at (flow_edges flow) place ≡ old = ap (λ e. unwrap_or e no_edge) there in
     ap (λ (z : ℤ). Some (with_bound old z)) is ∙ sym (ap (λ (e : Edge). Some (with_bound e bound)) here)
 
-pub repriced_is : (flow : FlowState) (place : ℕ) (old : Edge) (capacity : ℕ) → flow_edges flow place ≡ Some old → Some (with_capacity old capacity) ≡ Some (repriced flow place capacity)
-repriced_is flow place old capacity there =
+pub repriced_is : (flow : FlowState) (place : ℕ) (old : Edge) (capacity : ℕ) (read : ℤ) → flow_edges flow place ≡ Some old → read ≡ old.bound →
+    Some (with_capacity (with_bound old read) capacity) ≡ Some (repriced flow place capacity)
+repriced_is flow place old capacity read there is =
     let here : edge_at (flow_edges flow) place ≡ old = ap (λ e. unwrap_or e no_edge) there in
-    sym (ap (λ (e : Edge). Some (with_capacity e capacity)) here)
+    ap (λ (z : ℤ). Some (with_capacity (with_bound old z) capacity)) is ∙ sym (ap (λ (e : Edge). Some (with_capacity e capacity)) here)
+
+-- there are as many potentials as before
+pub nodes_prepared : (edges : Edges) (before after : List ℤ) → length before ≡ NODES → ArePrepared edges before after → length after ≡ NODES
+nodes_prepared edges before after nodes (inl same) = ap length same ∙ nodes
+nodes_prepared edges before after nodes (inr narrowed) = narrowed.nodes

@@ -1,8 +1,8 @@
 -- A path of firm edges that closes a walk below 0 with a firm edge, and times that keep them all where there is none.
-use Rattle.std.proofs.Common.{◌≡◌, ◌≢◌, ℕ, zero, suc, ◌+◌, ◌-◌, ◌<◌, ◌≤◌, Bool, true, false, cond, ℤ, pos, ◌+ℤ◌, ◌-ℤ◌, ◌≤ℤ◌, ◌<ℤ◌, List, [], ◌∷◌, length, get_or, set, take, Option, None, Some, IfSome, IsSome, is_some, unwrap_or, refl, sym, ap, subst, ◌∙◌, inl, inr, arith}
-use Rattle.std.specs.Prelude.{neg_ℤ, MatchOption}
+use Rattle.std.proofs.Common.{◌≡◌, ◌≢◌, ℕ, suc, ◌+◌, ◌<◌, ◌≤◌, Bool, true, false, cond, ℤ, pos, ◌+ℤ◌, ◌-ℤ◌, ◌≤ℤ◌, List, [], ◌∷◌, length, get_or, set, Option, None, Some, IsSome, is_some, unwrap_or, refl, sym, ap, subst, ◌∙◌, inl, inr, arith}
+use Rattle.std.specs.Prelude.{neg_ℤ}
 use Rattle.std.specs.Bool.{MatchBool}
-use Rattle.std.specs.List.{All, Contains}
+use Rattle.std.specs.List.{All}
 use Rattle.std.specs.Option.{option_map}
 use Rattle.std.proofs.lemmas.Int.{ints}
 use Rattle.std.proofs.lemmas.Bool.{cases_eq}
@@ -13,22 +13,22 @@ use Rattle.uhura_net.specs.declared.edge.Edge.{Edge}
 use Rattle.uhura_net.specs.declared.place.TheConstants.{PLACES}
 use Rattle.uhura_net.specs.declared.place.Place.{Place}
 use Rattle.uhura_net.specs.Place.{is_loose}
-use Rattle.uhura_net.specs.Edges.{Edges, no_edge, edge_at, time_at, Keeps, AreKept}
-use Rattle.uhura_net.specs.Walk.{Leads, IsClosedWalk, bounds_of, edges_at, IsNegativeWalk}
-use Rattle.uhura_net.specs.Circulation.{edges_of, units_of}
+use Rattle.uhura_net.specs.Edges.{Edges, no_edge, edge_at, time_at, Keeps}
+use Rattle.uhura_net.specs.Walk.{IsClosedWalk, bounds_of, edges_at}
+use Rattle.uhura_net.specs.Circulation.{edges_of}
 use Rattle.uhura_net.specs.Residual.{place_at}
 use Rattle.uhura_net.specs.Optimal.{slack_of, firm_edges}
-use Rattle.uhura_net.specs.Net.{NetState, IsNetEdge, IsNet}
+use Rattle.uhura_net.specs.Net.{NetState, IsNet}
 use Rattle.uhura_path.specs.declared.ways.Arc.{Arc}
 use Rattle.uhura_path.specs.declared.ways.Ways.TheVariants.{Firm}
 use Rattle.uhura_path.specs.declared.task.Task.{Task}
 use Rattle.uhura_path.specs.declared.found.Found.{Found}
-use Rattle.uhura_path.specs.Ways.{Arcs, walkable, NoneIsBelow, arc_of, arcs_of, no_arc}
+use Rattle.uhura_path.specs.Ways.{Arcs, walkable, arc_of, arcs_of, no_arc}
 use Rattle.uhura_path.specs.Walk.{IsWalk, IsPath, arc_at}
 use Rattle.uhura_path.specs.Found.{AreDistances, IsFound}
-use Rattle.uhura_path.proofs.Turns.{IsFirmWalk, IsFirmWalk-walk}
+use Rattle.uhura_path.proofs.Turns.{IsFirmWalk-walk}
 use Rattle.uhura_flow.specs.Flow.{IsFlowEdge, IsOptimalNet}
-use Rattle.uhura_flow.specs.Placing.{IsPossible, IsStuckWalk, IsStuckFound}
+use Rattle.uhura_flow.specs.Placing.{IsPossible, IsStuckWalk}
 use Rattle.uhura_flow.proofs.Ways.{firm_not_below, cost_of, arc_edge}
 use Rattle.uhura_flow.proofs.Trails.{step_of}
 use Rattle.uhura_flow.proofs.Readiness.{few_differ, net_edge_at}
@@ -114,7 +114,7 @@ stuck_walk net potentials place edge places backward cost cap sound inside firm 
     let new : Edges = firm_edges (edges_of (set net.edges place.0 (Some edge))) in
     let walk = IsFirmWalk-walk net (time_at potentials) edge.to places backward edge.from cost (firm_not_below net (time_at potentials) sound.kept) path.walk in
     let same : (step : ℕ) → step < length places → new (place_at places step) ≡ old (place_at places step) = λ step here.
-        firm_elsewhere net.edges place.0 (place_at places step) edge (firm_apart net (time_at potentials) edge.to places backward place.0 cost edge alike path step here) in
+    firm_elsewhere net.edges place.0 (place_at places step) edge (firm_apart net (time_at potentials) edge.to places backward place.0 cost edge alike path step here) in
     let first : new place.0 ≡ Some edge = firm_there net.edges place.0 edge (omega (arith, sound.sound.places)) firm in
     let first_at : edge_at new place.0 ≡ edge = ap (λ e. unwrap_or e no_edge) first in
     let rest : edges_at new places ≡ edges_at old places = same_edges old new places same in
@@ -132,39 +132,41 @@ stuck_walk net potentials place edge places backward cost cap sound inside firm 
 pub possible_apart : (net : NetState) (potentials : List ℤ) (place : ℕ) (edge : Edge) (cost : ℕ) (distance : ℕ → ℕ) → IsOptimalNet net potentials → place < PLACES → is_loose place ≡ false →
     AreDistances (arcs_of (walkable Firm net) (time_at potentials)) edge.from cost distance → distance edge.to ≡ cost → pos cost ≡ neg_ℤ (slack_of (time_at potentials) edge) →
     IsPossible (set net.edges place (Some edge))
-possible_apart net potentials place edge cost distance sound inside firm distances goal cost_is =
-    ((λ node. time_at potentials node +ℤ (pos cost -ℤ pos (distance node))),
-    λ other e is.
-    elim (cases_eq other place) [
-      | inl same ↦
-          let P : ℕ → Type 0 = λ p. firm_edges (edges_of (set net.edges place (Some edge))) p ≡ Some e in
-          let here : Some edge ≡ Some e = sym (firm_there net.edges place edge (omega (arith, sound.sound.places)) firm) ∙ subst P same is in
-          let edge_is : edge ≡ e = cc in
-          let Q : Edge → Type 0 = λ x. Keeps (λ node. time_at potentials node +ℤ (pos cost -ℤ pos (distance node))) x in
-          subst Q edge_is (omega (arith, ints, distances.here, goal, cost_is))
-      | inr apart ↦
-          let old : firm_edges (edges_of net.edges) other ≡ Some e = sym (firm_elsewhere net.edges place other edge apart) ∙ is in
-          let near : distance e.from ≤ distance e.to + (arc_of (time_at potentials) e).cost =
-          distances.kept other false (arc_of (time_at potentials) e) (ap (λ o. option_map (arc_of (time_at potentials)) o) old) in
-          let above : pos 0 ≤ℤ slack_of (time_at potentials) e = omega (arith, ints, sound.kept other e old) in
-          omega (arith, ints, near, cost_of (time_at potentials) e above)
-    ])
+possible_apart net potentials place edge cost distance sound inside firm distances goal cost_is = (
+  (λ node. time_at potentials node +ℤ (pos cost -ℤ pos (distance node))),
+  λ other e is.
+      elim (cases_eq other place) [
+        | inl same ↦
+            let P : ℕ → Type 0 = λ p. firm_edges (edges_of (set net.edges place (Some edge))) p ≡ Some e in
+            let here : Some edge ≡ Some e = sym (firm_there net.edges place edge (omega (arith, sound.sound.places)) firm) ∙ subst P same is in
+            let edge_is : edge ≡ e = cc in
+            let Q : Edge → Type 0 = λ x. Keeps (λ node. time_at potentials node +ℤ (pos cost -ℤ pos (distance node))) x in
+            subst Q edge_is (omega (arith, ints, distances.here, goal, cost_is))
+        | inr apart ↦
+            let old : firm_edges (edges_of net.edges) other ≡ Some e = sym (firm_elsewhere net.edges place other edge apart) ∙ is in
+            let near : distance e.from ≤ distance e.to + (arc_of (time_at potentials) e).cost =
+            distances.kept other false (arc_of (time_at potentials) e) (ap (λ o. option_map (arc_of (time_at potentials)) o) old) in
+            let above : pos 0 ≤ℤ slack_of (time_at potentials) e = omega (arith, ints, sound.kept other e old) in
+            omega (arith, ints, near, cost_of (time_at potentials) e above)
+      ],
+)
 
 -- an edge that the potentials keep is possible
 pub possible_with : (net : NetState) (potentials : List ℤ) (place : ℕ) (edge : Edge) → IsOptimalNet net potentials → place < PLACES → pos 0 ≤ℤ slack_of (time_at potentials) edge →
     IsPossible (set net.edges place (Some edge))
-possible_with net potentials place edge sound inside above =
-    (time_at potentials,
-    λ other e is.
-    elim (cases_eq other place) [
-      | inl same ↦
-          let P : ℕ → Type 0 = λ p. edges_of (set net.edges place (Some edge)) p ≡ Some e in
-          let here : Some edge ≡ Some e = sym (written_there net.edges place (Some edge) (omega (arith, sound.sound.places))) ∙ subst P same (firm_is_there (edges_of (set net.edges place (Some edge)) other) (is_loose other) e is) in
-          let edge_is : edge ≡ e = cc in
-          let Q : Edge → Type 0 = λ x. Keeps (time_at potentials) x in
-          subst Q edge_is (omega (arith, ints, above))
-      | inr apart ↦ sound.kept other e (sym (firm_elsewhere net.edges place other edge apart) ∙ is)
-    ])
+possible_with net potentials place edge sound inside above = (
+  time_at potentials,
+  λ other e is.
+      elim (cases_eq other place) [
+        | inl same ↦
+            let P : ℕ → Type 0 = λ p. edges_of (set net.edges place (Some edge)) p ≡ Some e in
+            let here : Some edge ≡ Some e = sym (written_there net.edges place (Some edge) (omega (arith, sound.sound.places))) ∙ subst P same (firm_is_there (edges_of (set net.edges place (Some edge)) other) (is_loose other) e is) in
+            let edge_is : edge ≡ e = cc in
+            let Q : Edge → Type 0 = λ x. Keeps (time_at potentials) x in
+            subst Q edge_is (omega (arith, ints, above))
+        | inr apart ↦ sound.kept other e (sym (firm_elsewhere net.edges place other edge apart) ∙ is)
+      ],
+)
 
 loose_case : (loose : Bool) (capacity : ℕ) → MatchBool loose (IsUnitPrice capacity) (capacity ≡ FIRM_CAPACITY) → capacity < FIRM_CAPACITY → loose ≡ true
 loose_case true capacity price less = refl

@@ -1,5 +1,5 @@
 -- A walk that closes a cycle with the place through which units are sent, and what sending them leaves.
-use Rattle.std.proofs.Common.{◌≡◌, ◌≢◌, ℕ, zero, suc, ◌+◌, ◌-◌, ◌<◌, ◌≤◌, ◌⊎◌, Bool, true, false, cond, eqb, ℤ, pos, ◌≤ℤ◌, List, [], ◌∷◌, length, get_or, set, Option, None, Some, unwrap_or, refl, sym, ap, subst, ◌∙◌, inl, inr, arith}
+use Rattle.std.proofs.Common.{◌≡◌, ◌≢◌, ℕ, zero, suc, ◌+◌, ◌<◌, ◌≤◌, Bool, true, false, ℤ, pos, ◌≤ℤ◌, List, [], ◌∷◌, length, set, Option, None, Some, unwrap_or, refl, sym, ap, subst, ◌∙◌, inl, inr, arith}
 use Rattle.std.specs.List.{All, AllByRecursion}
 use Rattle.std.proofs.lemmas.Int.{ints}
 use Rattle.std.proofs.lemmas.Bool.{cases_eq, ne_eqb}
@@ -13,9 +13,9 @@ use Rattle.uhura_net.specs.declared.place.Place.{Place}
 use Rattle.uhura_net.specs.Edges.{Edges, no_edge, edge_at, time_at}
 use Rattle.uhura_net.specs.Walk.{Leads, IsClosedWalk}
 use Rattle.uhura_net.specs.Circulation.{Units, edges_of, units_of}
-use Rattle.uhura_net.specs.Residual.{residual_edge, residual_walk, is_same_place, place_at, IsResidualCycle, IsMoved, IsPushed}
-use Rattle.uhura_net.specs.Optimal.{slack_of, IsOptimalAt, IsOptimal}
-use Rattle.uhura_net.specs.Net.{NetState, IsNetEdge, IsNet, CanTakeOver, MayBeSet, net_walk, IsNetCycle}
+use Rattle.uhura_net.specs.Residual.{residual_edge, residual_walk, is_same_place, place_at, IsMoved, IsPushed}
+use Rattle.uhura_net.specs.Optimal.{slack_of, IsOptimalAt}
+use Rattle.uhura_net.specs.Net.{NetState, IsNetEdge, IsNet, MayBeSet, net_walk, IsNetCycle}
 use Rattle.uhura_net.proofs.Pushing.{none_cons}
 use Rattle.uhura_net.proofs.Cycles.{is_among}
 use Rattle.uhura_flow.specs.declared.through.Through.{Through}

@@ -1,12 +1,11 @@
 -- Potentials whose gaps are narrowed, but not below what an edge can span, keep what they showed.
-use Rattle.std.proofs.Common.{◌≡◌, ℕ, ◌+◌, ◌<◌, ◌≤◌, Bool, true, ℤ, pos, ◌+ℤ◌, ◌-ℤ◌, ◌≤ℤ◌, ◌<ℤ◌, Option, None, Some, inl, inr, refl, arith}
+use Rattle.std.proofs.Common.{◌≡◌, ℕ, ◌<◌, Bool, true, ℤ, pos, ◌-ℤ◌, ◌≤ℤ◌, Some, inl, inr, arith}
 use Rattle.std.specs.Prelude.{neg_ℤ}
 use Rattle.std.proofs.lemmas.Int.{ints}
 use Rattle.uhura_net.specs.declared.edge.TheConstants.{NODES}
 use Rattle.uhura_net.specs.declared.edge.Edge.{Edge}
-use Rattle.uhura_net.specs.Edges.{Edges, edge_at, Keeps, AreKept}
-use Rattle.uhura_net.specs.Circulation.{Units}
-use Rattle.uhura_net.specs.Optimal.{slack_of, IsOptimalAt, IsOptimal}
+use Rattle.uhura_net.specs.Edges.{Edges, AreKept}
+use Rattle.uhura_net.specs.Optimal.{slack_of, IsOptimalAt}
 use Rattle.uhura_flow.specs.Narrowed.{wide, IsDrawn, AreDrawn}
 
 -- a bound is no wider than an edge can span, and both nodes are among some

@@ -1,13 +1,12 @@
 -- What taking units from a place turn after turn leaves.
-use Rattle.std.proofs.Common.{◌≡◌, ◌≢◌, ℕ, ◌+◌, ◌*◌, ◌-◌, ◌<◌, ◌≤◌, ◌⊎◌, Bool, true, false, ℤ, pos, negsuc, ◌+ℤ◌, ◌-ℤ◌, ◌≤ℤ◌, List, set, Option, None, Some, IfSome, refl, sym, ap, subst, ◌∙◌, inl, inr, arith}
+use Rattle.std.proofs.Common.{◌≡◌, ◌≢◌, ℕ, ◌*◌, ◌-◌, ◌≤◌, Bool, true, false, ℤ, pos, negsuc, ◌+ℤ◌, ◌-ℤ◌, ◌≤ℤ◌, List, set, Option, None, Some, IfSome, refl, sym, ap, subst, ◌∙◌, inl, inr, arith}
 use Rattle.std.proofs.lemmas.Int.{ints}
 use Rattle.uhura_net.specs.declared.edge.TheConstants.{NODES}
 use Rattle.uhura_net.specs.declared.edge.Edge.{Edge}
 use Rattle.uhura_net.specs.declared.place.Place.{Place}
 use Rattle.uhura_net.specs.Edges.{time_at}
 use Rattle.uhura_net.specs.Circulation.{edges_of, units_of}
-use Rattle.uhura_net.specs.Optimal.{slack_of}
-use Rattle.uhura_net.specs.Net.{NetState, IsNetEdge}
+use Rattle.uhura_net.specs.Net.{NetState}
 use Rattle.uhura_path.specs.declared.ways.TheConstants.{MOST_COST}
 use Rattle.uhura_path.specs.declared.task.TheConstants.{NO_CAP}
 use Rattle.uhura_path.specs.Ways.{ArePotentials}

@@ -1,15 +1,13 @@
 -- A place that has units can always be emptied: distances over edges with units don't grow beyond as many gaps as
 -- there are nodes, up to its start.
-use Rattle.std.proofs.Common.{◌≡◌, ℕ, ◌+◌, ◌*◌, ◌<◌, ◌≤◌, Bool, true, false, cond, eqb, zero, suc, refl, ap, sym, subst, inl, inr, arith}
+use Rattle.std.proofs.Common.{◌≡◌, ℕ, ◌+◌, ◌*◌, ◌<◌, ◌≤◌, Bool, true, false, cond, eqb, zero, suc, refl, ap, subst, inl, inr, arith}
 use Rattle.std.proofs.lemmas.Bool.{cases_lt, eqb-true}
 use Rattle.std.proofs.Math.Nat.{mul-le-mul_left}
-use Rattle.uhura_net.specs.declared.edge.Edge.{Edge}
-use Rattle.uhura_net.specs.Sums.{sum_below}
 use Rattle.uhura_net.specs.Edges.{Edges, edge_at}
 use Rattle.uhura_net.specs.Circulation.{Units, IsBalanced}
 use Rattle.uhura_net.proofs.Sums.{sum_below-le, sum_below-plus, sum_below-single}
 use Rattle.uhura_net.proofs.Cancelling.{cancel}
-use Rattle.uhura_flow.proofs.Gaps.{IsGap, gap_above, up_to, up_to-in, up_to-out, up_to-most}
+use Rattle.uhura_flow.proofs.Gaps.{gap_above, up_to, up_to-in, up_to-out, up_to-most}
 
 -- an edge takes no more out of the near nodes than it brings to near ones, and the one at the place brings some
 carried : (units from to here : ℕ) (at : Bool) → (1 ≤ units → from ≤ to) → (at ≡ true → (from ≡ 0) × (to ≡ 1) × (here ≡ units)) →

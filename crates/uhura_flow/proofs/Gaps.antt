@@ -1,5 +1,5 @@
 -- Of so many nodes with numbers, one of which is 0, some are a wide gap below all others or all are below that many gaps.
-use Rattle.std.proofs.Common.{◌≡◌, ℕ, zero, suc, ◌+◌, ◌*◌, ◌<◌, ◌≤◌, ◌⊎◌, Bool, true, false, cond, leb, refl, ap, sym, inl, inr, arith}
+use Rattle.std.proofs.Common.{◌≡◌, ℕ, zero, suc, ◌+◌, ◌*◌, ◌<◌, ◌≤◌, ◌⊎◌, cond, leb, ap, inl, inr, arith}
 use Rattle.std.proofs.lemmas.Bool.{cases_lt}
 use Rattle.uhura_net.specs.Sums.{sum_below}
 use Rattle.uhura_net.proofs.Sums.{sum_below-le, sum_below-most, term_le}

@@ -1,27 +1,23 @@
 -- What turn after turn of units through a place leaves.
-use Rattle.std.proofs.Common.{◌≡◌, ◌≢◌, ℕ, zero, suc, ◌+◌, ◌*◌, ◌-◌, ◌<◌, ◌≤◌, ◌⊎◌, Bool, true, false, cond, ℤ, pos, negsuc, ◌+ℤ◌, ◌-ℤ◌, ◌≤ℤ◌, ◌<ℤ◌, List, length, set, Option, None, Some, IfSome, unwrap_or, refl, sym, ap, subst, ◌∙◌, inl, inr, arith}
+use Rattle.std.proofs.Common.{◌≡◌, ◌≢◌, ℕ, ◌-◌, ◌≤◌, Bool, true, false, cond, ℤ, pos, negsuc, ◌≤ℤ◌, ◌<ℤ◌, List, set, Option, None, Some, IfSome, unwrap_or, refl, sym, ap, subst, ◌∙◌, inl, inr, arith}
 use Rattle.std.specs.Prelude.{neg_ℤ}
 use Rattle.std.specs.Int.RustNames.{unsigned_abs}
 use Rattle.std.proofs.lemmas.Int.{ints}
-use Rattle.uhura_net.specs.declared.edge.TheConstants.{NODES}
 use Rattle.uhura_net.specs.declared.edge.Edge.{Edge}
 use Rattle.uhura_net.specs.declared.place.TheConstants.{PLACES}
 use Rattle.uhura_net.specs.declared.place.Place.{Place}
 use Rattle.uhura_net.specs.Place.{is_loose}
-use Rattle.uhura_net.specs.Edges.{Edges, no_edge, edge_at, time_at, AreKept}
+use Rattle.uhura_net.specs.Edges.{no_edge, time_at, AreKept}
 use Rattle.uhura_net.specs.Circulation.{edges_of, units_of}
-use Rattle.uhura_net.specs.Residual.{IsMoved}
 use Rattle.uhura_net.specs.Optimal.{slack_of, below_zero, excess_of, IsOptimalAt, IsOptimal, firm_edges}
 use Rattle.uhura_net.specs.Net.{NetState, IsNetEdge, IsNet}
-use Rattle.uhura_path.specs.declared.ways.TheConstants.{MOST_COST}
 use Rattle.uhura_path.specs.declared.task.TheConstants.{NO_CAP}
 use Rattle.uhura_path.specs.Ways.{ArePotentials}
-use Rattle.uhura_flow.specs.declared.through.Through.{Through}
 use Rattle.uhura_flow.specs.Reading.{is_touched}
-use Rattle.uhura_flow.specs.Narrowed.{wide, IsDrawn, AreDrawn, AreNarrowed, ArePrepared}
-use Rattle.uhura_flow.specs.Turns.{with_capacity, edges_held, IsHeld, IsTurn, IsShifted, IsMovedOnce, IsOutcome}
-use Rattle.uhura_flow.specs.Loops.{above_zero, slack_under, IsFilled, IsFull, IsFillTurn, StaysSpare, IsDrained, IsEmptied, IsDrainTurn, reserve_of, IsBoundOf}
-use Rattle.uhura_flow.proofs.Drawing.{IsNarrow, IsOptimalAt-drawn, AreKept-drawn, slack_drawn-spare}
+use Rattle.uhura_flow.specs.Narrowed.{AreNarrowed, ArePrepared}
+use Rattle.uhura_flow.specs.Turns.{with_capacity, IsHeld, IsTurn}
+use Rattle.uhura_flow.specs.Loops.{above_zero, IsFilled, IsFillTurn}
+use Rattle.uhura_flow.proofs.Drawing.{IsNarrow, IsOptimalAt-drawn, AreKept-drawn}
 use Rattle.uhura_flow.proofs.Marking.{touched_ends}
 use Rattle.uhura_flow.proofs.Cycling.{set_twice}
 use Rattle.uhura_flow.proofs.Trails.{inside_where_there}
@@ -179,8 +175,12 @@ cap_is potentials edge cap is some = some_below_zero (slack_of (time_at potentia
 
 pub cap_few : (potentials : List ℤ) (edge : Edge) (cap : ℕ) → ArePotentials potentials → IsNetEdge edge → cap ≡ excess_of (time_at potentials) edge → cap ≤ NO_CAP
 cap_few potentials edge cap low sound is =
-    omega (arith, is, below_few (slack_of (time_at potentials) edge)
-    (omega (arith, ints, sound.least, low.least edge.from, low.most edge.from, low.least edge.to, low.most edge.to)))
+    omega (
+      arith,
+      is,
+      below_few (slack_of (time_at potentials) edge)
+          (omega (arith, ints, sound.least, low.least edge.from, low.most edge.from, low.least edge.to, low.most edge.to)),
+    )
 
 pub full_none : (potentials : List ℤ) (edge : Edge) (cap : ℕ) → cap ≡ excess_of (time_at potentials) edge → cap ≡ 0 → pos 0 ≤ℤ slack_of (time_at potentials) edge
 full_none potentials edge cap is none = none_below_zero (slack_of (time_at potentials) edge) (sym is ∙ none)

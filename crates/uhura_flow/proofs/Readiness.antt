@@ -1,7 +1,6 @@
 -- What a search and a lift leave for a turn of units around a cycle.
-use Rattle.std.proofs.Common.{◌≡◌, ◌≢◌, ℕ, zero, suc, ◌+◌, ◌*◌, ◌-◌, ◌<◌, ◌≤◌, Bool, true, false, cond, eqb, ℤ, pos, negsuc, ◌+ℤ◌, ◌-ℤ◌, ◌≤ℤ◌, ◌<ℤ◌, List, [], ◌∷◌, length, get_or, set, Option, None, Some, IfSome, unwrap_or, refl, sym, ap, subst, ◌∙◌, inl, inr, arith}
+use Rattle.std.proofs.Common.{◌≡◌, ◌≢◌, ℕ, zero, suc, ◌+◌, ◌*◌, ◌<◌, ◌≤◌, Bool, true, false, cond, eqb, ℤ, pos, ◌≤ℤ◌, List, [], ◌∷◌, length, get_or, set, Option, None, Some, IfSome, unwrap_or, refl, sym, ap, subst, ◌∙◌, inl, inr, arith}
 use Rattle.std.specs.Prelude.{neg_ℤ, MatchOption}
-use Rattle.std.specs.List.{All}
 use Rattle.std.specs.Option.{option_map}
 use Rattle.std.proofs.lemmas.Int.{ints}
 use Rattle.std.proofs.lemmas.Bool.{cases_eq, ne_eqb, eq-eqb}
@@ -13,24 +12,23 @@ use Rattle.uhura_net.specs.Edges.{Edges, no_edge, edge_at, time_at}
 use Rattle.uhura_net.specs.Sums.{sum_below}
 use Rattle.uhura_net.specs.Circulation.{edges_of, units_of}
 use Rattle.uhura_net.specs.Residual.{residual_edge, place_at}
-use Rattle.uhura_net.specs.Optimal.{slack_of, IsOptimal}
+use Rattle.uhura_net.specs.Optimal.{slack_of}
 use Rattle.uhura_net.specs.Net.{NetState, IsNetEdge, IsNet}
-use Rattle.uhura_net.proofs.Sums.{sum_below-same, sum_below-le, sum_below-most, sum_below-exchange, sum_below-single}
+use Rattle.uhura_net.proofs.Sums.{sum_below-le, sum_below-most, sum_below-exchange, sum_below-single}
 use Rattle.uhura_path.specs.declared.ways.TheConstants.{MOST_COST}
 use Rattle.uhura_path.specs.declared.ways.Arc.{Arc}
 use Rattle.uhura_path.specs.declared.ways.Ways.TheVariants.{Residual}
-use Rattle.uhura_path.specs.Ways.{Arcs, walkable, residual_option, NoneIsBelow, ArePotentials, arc_of, arcs_of, no_arc}
+use Rattle.uhura_path.specs.Ways.{Arcs, walkable, residual_option, ArePotentials, arc_of, arcs_of, no_arc}
 use Rattle.uhura_path.specs.Walk.{IsPath, IsLeastRoom, arc_at}
 use Rattle.uhura_path.specs.declared.task.Task.{Task}
 use Rattle.uhura_path.specs.declared.found.Path.{Path}
 use Rattle.uhura_path.specs.declared.found.Found.{Found}
 use Rattle.uhura_path.specs.Found.{AreDistances, IsLifted, IsFound, IsPathOf}
 use Rattle.uhura_flow.specs.declared.through.Through.{Through}
-use Rattle.uhura_flow.specs.Turns.{with_capacity, IsHeld, walk_start, walk_end, IsReady, IsSent, IsShifted, IsMovedOnce, IsTurn}
+use Rattle.uhura_flow.specs.Turns.{with_capacity, IsHeld, walk_start, walk_end, IsReady, IsSent, IsShifted, IsTurn}
 use Rattle.uhura_flow.proofs.Emptying.{never_far}
-use Rattle.uhura_flow.proofs.Cycling.{held_there, set_twice}
 use Rattle.uhura_flow.proofs.Ways.{walked, walks, none_below, optimal_from, cost_of, arc_edge, none_below-lifted}
-use Rattle.uhura_flow.proofs.Trails.{tight_along, IsTrail, IsTrail-walk, room_along, some_room, step_of, full_apart, drained_apart, inside_where_there}
+use Rattle.uhura_flow.proofs.Trails.{tight_along, IsTrail-walk, room_along, step_of, full_apart, drained_apart}
 
 -- one at most of numbers that differ is a given one
 at_most_one : (count : ℕ) (f : ℕ → ℕ) (v : ℕ) → ((i j : ℕ) → i < j → j < count → f i ≢ f j) → sum_below count (λ i. cond (eqb (f i) v) 1 0) ≤ 1
@@ -58,7 +56,7 @@ few_differ count n f differ below =
       arith,
       ones count,
       sum_below-le count (λ (i : ℕ). 1) (λ i. sum_below n (λ v. cond (eqb (f i) v) 1 0))
-      (λ i inside. omega (arith, sum_below-single n (f i) (λ (v : ℕ). 1) (below i inside))),
+          (λ i inside. omega (arith, sum_below-single n (f i) (λ (v : ℕ). 1) (below i inside))),
     ) in
     let turned = sum_below-exchange count n (λ i v. cond (eqb (f i) v) 1 0) in
     let most = sum_below-most n 1 (λ v. sum_below count (λ i. cond (eqb (f i) v) 1 0)) (λ v _. at_most_one count f v differ) in
@@ -201,12 +199,12 @@ found_near net before after through cap most cost distance asked answered back =
     let none = none_below net (time_at before) asked.held.optimal in
     let here : edge_at edges place ≡ with_capacity through.edge (units_of net.units place) = ap (λ e. unwrap_or e no_edge) asked.held.there in
     let near : (other : ℕ) → other < PLACES → 1 ≤ units_of net.units other → distance (edge_at edges other).to ≤ distance (edge_at edges other).from + MOST_COST = λ other inside some.
-        let within = asked.held.sound.circulates.within other in
-        let back_edge = walks_back (edges other) (units_of net.units other) some within in
-        let sound = net_edge_at net other (edge_at edges other) asked.held.sound (there_with_units (edges other) (units_of net.units other) some within) in
-        let kept = answered.distances.kept other true (arc_of (time_at before) (residual_edge (edge_at edges other) (units_of net.units other) true))
-        (ap (λ e. option_map (arc_of (time_at before)) e) back_edge) in
-        omega (arith, kept, cost_most before (edge_at edges other) (units_of net.units other) asked.low sound (none other true (residual_edge (edge_at edges other) (units_of net.units other) true) back_edge)) in
+    let within = asked.held.sound.circulates.within other in
+    let back_edge = walks_back (edges other) (units_of net.units other) some within in
+    let sound = net_edge_at net other (edge_at edges other) asked.held.sound (there_with_units (edges other) (units_of net.units other) some within) in
+    let kept = answered.distances.kept other true (arc_of (time_at before) (residual_edge (edge_at edges other) (units_of net.units other) true))
+    (ap (λ e. option_map (arc_of (time_at before)) e) back_edge) in
+    omega (arith, kept, cost_most before (edge_at edges other) (units_of net.units other) asked.low sound (none other true (residual_edge (edge_at edges other) (units_of net.units other) true) back_edge)) in
     let root : distance through.edge.to ≡ 0 = subst (λ b. distance (walk_end through.edge b) ≡ 0) back answered.distances.here in
     let goal : distance through.edge.from ≡ cost = subst (λ b. distance (walk_start through.edge b) ≡ cost) back answered.goal in
     let far = never_far PLACES NODES MOST_COST edges (units_of net.units) distance place asked.held.sound.circulates.balanced asked.held.inside

@@ -1,8 +1,8 @@
 -- When all is optimal again.
-use Rattle.std.proofs.Common.{◌≡◌, ◌≢◌, ℕ, ◌+◌, ◌-◌, ◌<◌, ◌≤◌, ◌⊎◌, Bool, true, false, cond, ℤ, pos, negsuc, ◌+ℤ◌, ◌-ℤ◌, ◌≤ℤ◌, List, length, get_or, set, Option, None, Some, IfSome, unwrap_or, refl, sym, ap, subst, ◌∙◌, inl, inr, arith}
+use Rattle.std.proofs.Common.{◌≡◌, ◌≢◌, ℕ, ◌+◌, ◌<◌, ◌≤◌, ◌⊎◌, Bool, true, false, cond, ℤ, pos, negsuc, ◌≤ℤ◌, List, length, set, Option, None, Some, IfSome, unwrap_or, sym, ap, subst, ◌∙◌, inl, inr, arith}
 use Rattle.std.specs.Bool.{MatchBool}
 use Rattle.std.proofs.lemmas.Int.{ints}
-use Rattle.std.proofs.lemmas.Bool.{cases_eq, cases_lt}
+use Rattle.std.proofs.lemmas.Bool.{cases_eq}
 use Rattle.std.proofs.lemmas.List.{get_or-set_same, get_or-set_other}
 use Rattle.uhura_net.specs.declared.edge.TheConstants.{NODES, FIRM_CAPACITY}
 use Rattle.uhura_net.specs.declared.edge.Edge.{Edge}
@@ -10,16 +10,16 @@ use Rattle.uhura_net.specs.declared.place.TheConstants.{PLACES}
 use Rattle.uhura_plan.specs.Limits.{IsUnitPrice}
 use Rattle.uhura_net.specs.Place.{is_loose}
 use Rattle.uhura_net.specs.Table.{IsEdgeFor}
-use Rattle.uhura_net.specs.Edges.{Edges, no_edge, edge_at, time_at, AreKept}
+use Rattle.uhura_net.specs.Edges.{no_edge, edge_at, time_at, AreKept}
 use Rattle.uhura_net.specs.Circulation.{edges_of, units_of}
-use Rattle.uhura_net.specs.Optimal.{slack_of, below_zero, IsOptimalAt, IsOptimal, firm_edges, ArePlaced}
-use Rattle.uhura_net.specs.Net.{NetState, IsNetEdge, IsNet, CanTakeOver, MayBeSet}
+use Rattle.uhura_net.specs.Optimal.{slack_of, below_zero, IsOptimalAt, IsOptimal, firm_edges}
+use Rattle.uhura_net.specs.Net.{NetState, IsNetEdge, IsNet, MayBeSet}
 use Rattle.uhura_net.proofs.Firm.{firm_are_kept}
 use Rattle.uhura_net.proofs.Outweighing.{firm_outweigh}
 use Rattle.uhura_flow.specs.Flow.{IsFlowEdge, AreFlowEdges, IsOptimalNet}
 use Rattle.uhura_flow.specs.Changes.{apart_by}
 use Rattle.uhura_flow.specs.Turns.{with_capacity, edges_held, IsHeld}
-use Rattle.uhura_flow.specs.Loops.{with_bound, slack_under, IsFilled, IsFull, IsDrained, IsEmptied, IsBoundOf}
+use Rattle.uhura_flow.specs.Loops.{with_bound, slack_under, IsFilled, IsFull, IsDrained, IsBoundOf}
 use Rattle.uhura_flow.specs.Placing.{AreFlowEdgesBut, IsPossible, IsPlaced}
 use Rattle.uhura_flow.proofs.Cycling.{set_twice}
 use Rattle.uhura_flow.proofs.Trails.{inside_where_there}
@@ -28,16 +28,17 @@ use Rattle.uhura_flow.proofs.Readiness.{held_side}
 -- edges that may stand where they do are placed
 placed_at : (net : NetState) (place : ℕ) (edge : Edge) → IsNet net → AreFlowEdges net.edges → edges_of net.edges place ≡ Some edge → (place < PLACES) × IsEdgeFor place edge
 placed_at net place edge sound placed is =
-    let flow : IsFlowEdge place edge = subst (λ e. IfSome e (IsFlowEdge place)) is (placed place) in
-    (inside_where_there net place edge sound is,
-    record {
-      from = flow.of_net.from;
-      to = flow.of_net.to;
-      apart = flow.of_net.apart;
-      least = omega (arith, ints, flow.of_net.least);
-      most = omega (arith, ints, flow.of_net.most);
-      capacity = flow.capacity;
-    })
+    let flow : IsFlowEdge place edge = subst (λ e. IfSome e (IsFlowEdge place)) is (placed place) in (
+      inside_where_there net place edge sound is,
+      record {
+        from = flow.of_net.from;
+        to = flow.of_net.to;
+        apart = flow.of_net.apart;
+        least = omega (arith, ints, flow.of_net.least);
+        most = omega (arith, ints, flow.of_net.most);
+        capacity = flow.capacity;
+      },
+    )
 
 -- where a place is written, and elsewhere
 pub written_there : (edges : List (Option Edge)) (place : ℕ) (edge : Option Edge) → place < length edges → edges_of (set edges place edge) place ≡ edge
@@ -75,15 +76,15 @@ given base held net after place first edge mid is_held edges_are inside others h
     let held_inside : place < length held.edges = omega (arith, is_held.sound.places, is_held.inside) in
     let edges_held_now : net.edges ≡ set held.edges place edge = ap (λ (n : NetState). n.edges) is in
     let all : (other : ℕ) → IsOptimalAt (edge_at (edges_of (set held.edges place edge)) other) (units_of held.units other) (time_at after) = λ other.
-        elim (cases_eq other place) [
-          | inl same ↦
-              let P : ℕ → Type 0 = λ p. IsOptimalAt (edge_at (edges_of (set held.edges place edge)) p) (units_of held.units p) (time_at after) in
-              let Q : Option Edge → Type 0 = λ e. IsOptimalAt (unwrap_or e no_edge) (units_of held.units place) (time_at after) in
-              subst P (sym same) (subst Q (sym (written_there held.edges place edge held_inside)) optimal)
-          | inr apart ↦
-              let Q : Option Edge → Type 0 = λ e. IsOptimalAt (unwrap_or e no_edge) (units_of held.units other) (time_at after) in
-              subst Q (sym (written_elsewhere held.edges place other edge apart)) (is_held.optimal other)
-        ] in
+    elim (cases_eq other place) [
+      | inl same ↦
+          let P : ℕ → Type 0 = λ p. IsOptimalAt (edge_at (edges_of (set held.edges place edge)) p) (units_of held.units p) (time_at after) in
+          let Q : Option Edge → Type 0 = λ e. IsOptimalAt (unwrap_or e no_edge) (units_of held.units place) (time_at after) in
+          subst P (sym same) (subst Q (sym (written_there held.edges place edge held_inside)) optimal)
+      | inr apart ↦
+          let Q : Option Edge → Type 0 = λ e. IsOptimalAt (unwrap_or e no_edge) (units_of held.units other) (time_at after) in
+          subst Q (sym (written_elsewhere held.edges place other edge apart)) (is_held.optimal other)
+    ] in
     let optimal_now : IsOptimal (edges_of net.edges) (units_of net.units) (time_at after) =
     let P : List (Option Edge) → Type 0 = λ l. (other : ℕ) → IsOptimalAt (edge_at (edges_of l) other) (units_of net.units other) (time_at after) in
     let Q : (ℕ → ℕ) → Type 0 = λ u. (other : ℕ) → IsOptimalAt (edge_at (edges_of (set held.edges place edge)) other) (u other) (time_at after) in
@@ -170,15 +171,15 @@ held_as old net potentials place edge sound inside of_net optimal is net_sound =
     let room : place < length old.edges = omega (arith, sound.sound.places) in
     let new : List (Option Edge) = edges_held old place edge (units place) in
     let all : (other : ℕ) → IsOptimalAt (edge_at (edges_of new) other) (units other) (time_at potentials) = λ other.
-        elim (cases_eq other place) [
-          | inl same ↦
-              let P : ℕ → Type 0 = λ p. IsOptimalAt (edge_at (edges_of new) p) (units p) (time_at potentials) in
-              let Q : Option Edge → Type 0 = λ e. IsOptimalAt (unwrap_or e no_edge) (units place) (time_at potentials) in
-              subst P (sym same) (subst Q (sym (written_there old.edges place (Some (with_capacity edge (units place))) room)) optimal)
-          | inr apart ↦
-              let Q : Option Edge → Type 0 = λ e. IsOptimalAt (unwrap_or e no_edge) (units other) (time_at potentials) in
-              subst Q (sym (written_elsewhere old.edges place other (Some (with_capacity edge (units place))) apart)) (sound.optimal other)
-        ] in
+    elim (cases_eq other place) [
+      | inl same ↦
+          let P : ℕ → Type 0 = λ p. IsOptimalAt (edge_at (edges_of new) p) (units p) (time_at potentials) in
+          let Q : Option Edge → Type 0 = λ e. IsOptimalAt (unwrap_or e no_edge) (units place) (time_at potentials) in
+          subst P (sym same) (subst Q (sym (written_there old.edges place (Some (with_capacity edge (units place))) room)) optimal)
+      | inr apart ↦
+          let Q : Option Edge → Type 0 = λ e. IsOptimalAt (unwrap_or e no_edge) (units other) (time_at potentials) in
+          subst Q (sym (written_elsewhere old.edges place other (Some (with_capacity edge (units place))) apart)) (sound.optimal other)
+    ] in
     let holds : NetState → Type 0 = λ n. (edges_of n.edges place ≡ Some (with_capacity edge (units_of n.units place))) × IsOptimal (edges_of n.edges) (units_of n.units) (time_at potentials) in
     let both = subst holds (sym is) (written_there old.edges place (Some (with_capacity edge (units place))) room, all) in
     record {

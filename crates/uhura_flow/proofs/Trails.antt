@@ -1,8 +1,7 @@
 -- The path that a search found, as a walk of residual edges or of firm ones.
-use Rattle.std.proofs.Common.{◌≡◌, ◌≢◌, ℕ, zero, suc, ◌+◌, ◌-◌, ◌<◌, ◌≤◌, Bool, true, false, ℤ, pos, ◌+ℤ◌, ◌-ℤ◌, ◌≤ℤ◌, ◌<ℤ◌, List, [], ◌∷◌, length, get_or, Option, None, Some, IsSome, unwrap_or, refl, sym, ap, subst, ◌∙◌, inl, inr, arith}
+use Rattle.std.proofs.Common.{◌≡◌, ◌≢◌, ℕ, zero, suc, ◌+◌, ◌<◌, ◌≤◌, Bool, true, false, ℤ, pos, ◌≤ℤ◌, ◌<ℤ◌, List, [], ◌∷◌, length, get_or, None, Some, unwrap_or, refl, sym, ap, subst, ◌∙◌, inl, inr, arith}
 use Rattle.std.specs.Prelude.{neg_ℤ}
 use Rattle.std.specs.List.{All}
-use Rattle.std.specs.Option.{option_map}
 use Rattle.std.proofs.lemmas.Int.{ints}
 use Rattle.std.proofs.lemmas.Bool.{cases_lt}
 use Rattle.std.proofs.lemmas.List.{get_or_past}
@@ -10,18 +9,18 @@ use Rattle.std.proofs.lemmas.List.Elements.{All-nil, All-cons}
 use Rattle.uhura_net.specs.declared.edge.Edge.{Edge}
 use Rattle.uhura_net.specs.declared.place.TheConstants.{PLACES}
 use Rattle.uhura_net.specs.declared.place.Place.{Place}
-use Rattle.uhura_net.specs.Edges.{Edges, no_edge, edge_at}
-use Rattle.uhura_net.specs.Walk.{Leads, bounds_of, edges_at}
+use Rattle.uhura_net.specs.Edges.{no_edge, edge_at}
+use Rattle.uhura_net.specs.Walk.{Leads}
 use Rattle.uhura_net.specs.Circulation.{edges_of, units_of}
 use Rattle.uhura_net.specs.Residual.{residual_edge, place_at}
-use Rattle.uhura_net.specs.Optimal.{slack_of, firm_edges}
+use Rattle.uhura_net.specs.Optimal.{slack_of}
 use Rattle.uhura_net.specs.Net.{NetState, IsNet, net_walk}
 use Rattle.uhura_path.specs.declared.ways.Arc.{Arc}
-use Rattle.uhura_path.specs.declared.ways.Ways.TheVariants.{Residual, Firm}
-use Rattle.uhura_path.specs.Ways.{Arcs, Walkable, walkable, residual_option, NoneIsBelow, arc_of, arcs_of, no_arc}
+use Rattle.uhura_path.specs.declared.ways.Ways.TheVariants.{Residual}
+use Rattle.uhura_path.specs.Ways.{Arcs, walkable, NoneIsBelow, arc_of, arcs_of, no_arc}
 use Rattle.uhura_path.specs.Walk.{IsWalk, IsPath, IsLeastRoom, arc_at}
 use Rattle.uhura_path.specs.Found.{AreDistances, IsLifted}
-use Rattle.uhura_flow.proofs.Ways.{IsWalked, walked, cost_of, arc_edge}
+use Rattle.uhura_flow.proofs.Ways.{walked, cost_of, arc_edge}
 
 -- a distance is at most what a walk to the root costs
 far_most : (arcs : Arcs) (from : ℕ) (places : List Place) (backward : List Bool) (to cost top : ℕ) (distance : ℕ → ℕ) → AreDistances arcs to top distance →

@@ -1,17 +1,17 @@
 -- What may be walked in a net, and potentials under which it is optimal.
-use Rattle.std.proofs.Common.{◌≡◌, ℕ, ◌+◌, ◌-◌, ◌<◌, ◌≤◌, Bool, true, false, cond, leb, ℤ, pos, negsuc, ◌+ℤ◌, ◌-ℤ◌, ◌≤ℤ◌, Option, None, Some, unwrap_or, refl, sym, ap, subst, ◌∙◌, inl, inr, arith}
+use Rattle.std.proofs.Common.{◌≡◌, ℕ, ◌+◌, ◌≤◌, Bool, true, false, cond, leb, ℤ, pos, negsuc, ◌≤ℤ◌, Option, None, Some, unwrap_or, refl, sym, ap, subst, arith}
 use Rattle.std.specs.Int.RustNames.{unsigned_abs}
 use Rattle.std.specs.Option.{option_map}
 use Rattle.std.proofs.lemmas.Int.{ints}
 use Rattle.uhura_net.specs.declared.edge.Edge.{Edge}
-use Rattle.uhura_net.specs.Edges.{Edges, no_edge, edge_at, AreKept}
+use Rattle.uhura_net.specs.Edges.{no_edge, edge_at, AreKept}
 use Rattle.uhura_net.specs.Circulation.{edges_of, units_of}
 use Rattle.uhura_net.specs.Residual.{residual_edge}
 use Rattle.uhura_net.specs.Optimal.{slack_of, IsOptimalAt, IsOptimal, firm_edges}
 use Rattle.uhura_net.specs.Net.{NetState, IsNet}
 use Rattle.uhura_path.specs.declared.ways.Arc.{Arc}
 use Rattle.uhura_path.specs.declared.ways.Ways.TheVariants.{Residual, Firm}
-use Rattle.uhura_path.specs.Ways.{Walkable, roomy_edge, residual_option, walkable, NoneIsBelow, arc_of, arcs_of}
+use Rattle.uhura_path.specs.Ways.{Walkable, residual_option, walkable, NoneIsBelow, arc_of, arcs_of}
 use Rattle.uhura_path.specs.Found.{AreDistances, IsLifted}
 
 -- an edge that can be walked can carry a unit, and is the residual edge of the one there

@@ -1,13 +1,13 @@
 -- What is read of a flow: its value, and potentials that show what it is paid by.
-use Rattle.std.specs.Prelude.{ℕ, zero, suc, ◌+◌, ◌-◌, ◌*◌, ◌^◌, ◌≡◌, min, ◌==◌, ◌||◌, Bool, false, if◌then◌else◌, ℤ, pos, List, length, Option, None, Some}
+use Rattle.std.specs.Prelude.{ℕ, zero, suc, ◌+◌, ◌-◌, ◌*◌, ◌^◌, ◌≡◌, min, ◌==◌, ◌||◌, Bool, false, if◌then◌else◌, ℤ, pos, Option, None, Some}
 use Rattle.uhura_net.specs.declared.edge.TheConstants.{NODES}
 use Rattle.uhura_net.specs.declared.edge.Edge.{Edge}
 use Rattle.uhura_net.specs.declared.place.TheConstants.{PLACES}
 use Rattle.uhura_net.specs.Sums.{sum_below}
-use Rattle.uhura_net.specs.Edges.{Edges, time_at, AreKept}
-use Rattle.uhura_net.specs.Optimal.{IsOptimal, firm_edges, loose_excess}
+use Rattle.uhura_net.specs.Edges.{Edges}
+use Rattle.uhura_net.specs.Optimal.{loose_excess}
 use Rattle.uhura_net.specs.Net.{net_value}
-use Rattle.uhura_flow.specs.Flow.{FlowState, flow_edges, flow_units, flow_potentials, AreWithin, IsFlow}
+use Rattle.uhura_flow.specs.Flow.{FlowState, flow_edges, flow_potentials, AreWithin, IsFlow}
 
 -- a node is one of the two of an edge
 abbrev pub touches : Option Edge → ℕ → Bool

@@ -10,11 +10,11 @@ ghost use Rattle.uhura_flow.specs.Changes.{rebounded, repriced, IsChanged, IsSet
 ghost use Rattle.uhura_flow.specs.Reading.{IsReading};
 ghost use Rattle.uhura_flow.specs.Told.{IsTold};
 
+use crate::Settled;
 use crate::placing::{put_in, rebind, repay, take_out};
 use crate::potentials::Potentials;
 use crate::room::Room;
 use crate::stuck::find_stuck;
-use crate::Settled;
 use std::alloc::{AllocError, Global};
 use std::marker::Model;
 use uhura_net::{Edge, NODES, Net, PLACES, Place};

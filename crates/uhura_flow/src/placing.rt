@@ -159,13 +159,7 @@ fn loosen(
 }
 
 /// Adds units to a place, whose capacity stands at its units, until its edge with its capacity is optimal.
-fn tighten(
-    net: &mut Net,
-    potentials: &mut Potentials,
-    room: &mut Room,
-    place: Place,
-    edge: Edge,
-)
+fn tighten(net: &mut Net, potentials: &mut Potentials, room: &mut Room, place: Place, edge: Edge)
     requires held { IsHeld net.old potentials.old place.0 edge }
     requires units { units_of net.old.units place.0 ≤ edge.capacity }
     requires edge { IsFlowEdge place.0 edge }

@@ -65,9 +65,9 @@ pub(crate) fn turn(
 /// The search for a path that closes a cycle with a place.
 fn task_of(through: Through, cap: u64) -> Task
     ensures { result ≡ record {
-        root = walk_end through.edge through.back;
-        goal = walk_start through.edge through.back;
-        cap = cap;
+      root = walk_end through.edge through.back;
+      goal = walk_start through.edge through.back;
+      cap = cap;
     } }
 {
     let edge = through.edge;

@@ -1,4 +1,4 @@
-use Rattle.std.proofs.Common.{◌≡◌, ◌+◌, ◌≤◌, arith}
+use Rattle.std.proofs.Common.{arith}
 use Rattle.uhura_flow.proofs.Emptied.{StaysSpare-same, IsDrained-none, IsDrained-more, IsEmptied-few}
 use Rattle.uhura_flow.proofs.draining.drain.Goals as goal
 

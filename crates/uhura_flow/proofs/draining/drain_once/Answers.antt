@@ -1,6 +1,5 @@
-use Rattle.std.proofs.Common.{◌≡◌, ◌-◌, ℕ, true, subst, inl, inr, arith}
-use Rattle.uhura_net.specs.Circulation.{units_of}
-use Rattle.uhura_flow.specs.Turns.{IsHeld, IsTurn}
+use Rattle.std.proofs.Common.{◌-◌, ℕ, true, subst, arith}
+use Rattle.uhura_flow.specs.Turns.{IsTurn}
 use Rattle.uhura_flow.proofs.Looping.{IsHeld-prepared}
 use Rattle.uhura_flow.proofs.Emptied.{StaysSpare-prepared, IsDrained-none, IsDrained-more, IsDrained-turn, IsDrainTurn-turn, IsEmptied-few, IsEmptied-none}
 use Rattle.uhura_flow.proofs.draining.drain_once.Goals as goal

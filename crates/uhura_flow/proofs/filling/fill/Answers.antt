@@ -1,4 +1,4 @@
-use Rattle.std.proofs.Common.{◌≡◌, ◌+◌, ◌≤◌, arith}
+use Rattle.std.proofs.Common.{arith}
 use Rattle.uhura_flow.proofs.Looping.{IsFilled-none, IsFilled-more}
 use Rattle.uhura_flow.proofs.filling.fill.Goals as goal
 

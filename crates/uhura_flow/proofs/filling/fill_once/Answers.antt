@@ -1,6 +1,5 @@
-use Rattle.std.proofs.Common.{◌≡◌, ◌-◌, ℕ, false, subst, inl, inr, arith}
-use Rattle.uhura_net.specs.Circulation.{units_of}
-use Rattle.uhura_flow.specs.Turns.{IsHeld, IsTurn}
+use Rattle.std.proofs.Common.{◌-◌, ℕ, false, subst, inl, inr, arith}
+use Rattle.uhura_flow.specs.Turns.{IsTurn}
 use Rattle.uhura_flow.proofs.Looping.{IsHeld-prepared, IsFilled-none, IsFilled-turn, IsFillTurn-turn, cap_is, cap_few, full_none}
 use Rattle.uhura_flow.proofs.filling.fill_once.Goals as goal
 use Rattle.uhura_flow.proofs.filling.fill_once.Goals.{then-cap-eq0-via-then-cap-eq0, then-cap-eq0-via-else-cap-eq0+then-units-most}

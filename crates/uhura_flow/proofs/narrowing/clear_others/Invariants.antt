@@ -1,5 +1,5 @@
 use Rattle.uhura_flow.proofs.Lowering.{IsEachDone}
-use Rattle.std.proofs.Common.{ℤ, pos, false, cond, get_or}
+use Rattle.std.proofs.Common.{pos, false, cond, get_or}
 use Rattle.uhura_flow.proofs.narrowing.clear_others.Given as goal
 
 -- the potentials in front are cleared where there is no mark

@@ -1,4 +1,4 @@
-use Rattle.std.proofs.Common.{◌≡◌, ◌+◌, ◌∙◌, ap, Bool, false, List, length, get_or, replicate, slice_index_or}
+use Rattle.std.proofs.Common.{◌≡◌, ◌∙◌, ap, Bool, false, List, length, get_or, replicate, slice_index_or}
 use Rattle.uhura_plan.proofs.Slots.{get_or-replicate_default}
 use Rattle.std.specs.Prelude.{◌||◌}
 use Rattle.uhura_net.specs.Circulation.{edges_of}

@@ -1,9 +1,8 @@
-use Rattle.std.proofs.Common.{◌≡◌, ◌+◌, ℤ, pos, to_z, of_z, w64, sym, subst, arith}
+use Rattle.std.proofs.Common.{◌≡◌, ℤ, to_z, of_z, w64, subst, arith}
 use Rattle.std.proofs.lemmas.Int.{ints}
-use Rattle.uhura_net.specs.declared.edge.TheConstants.{NODES}
 use Rattle.uhura_net.specs.Circulation.{edges_of}
 use Rattle.uhura_flow.specs.Narrowed.{IsGapNarrowed}
-use Rattle.uhura_flow.proofs.Rounds.{IsNarrowing, IsNarrowing-none, IsNarrowing-more, AreNarrowed-done, AreNarrowed-all}
+use Rattle.uhura_flow.proofs.Rounds.{IsNarrowing-none, IsNarrowing-more, AreNarrowed-done, AreNarrowed-all}
 use Rattle.uhura_flow.proofs.narrowing.narrow.Goals as goal
 
 pub loop-round-init : goal.loop-round-init

@@ -1,8 +1,8 @@
-use Rattle.std.proofs.Common.{◌≡◌, ◌+ℤ◌, ◌-ℤ◌, ◌≤ℤ◌, ◌<ℤ◌, pos, to_z, of_z, w64, ℤ, false, ◌∙◌, ap, subst, arith}
+use Rattle.std.proofs.Common.{◌≡◌, ◌+ℤ◌, ◌-ℤ◌, ◌<ℤ◌, pos, to_z, of_z, w64, ℤ, false, ◌∙◌, ap, subst, arith}
 use Rattle.std.proofs.lemmas.Int.{ints, to_z-of_z}
 use mir.Val.{SFits}
 use lib.Signed.{le_z}
-use Rattle.uhura_flow.specs.Narrowed.{wide, IsGapNarrowed, AreLowered}
+use Rattle.uhura_flow.specs.Narrowed.{wide, AreLowered}
 use Rattle.uhura_flow.proofs.Rounds.{IsGapNarrowed-none, IsGapNarrowed-wide}
 use Rattle.uhura_flow.proofs.narrowing.narrow_gap.Goals as goal
 

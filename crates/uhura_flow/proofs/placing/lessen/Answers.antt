@@ -1,4 +1,4 @@
-use Rattle.std.proofs.Common.{◌≡◌, ℕ, None, Some, ap, ◌∙◌}
+use Rattle.std.proofs.Common.{ℕ, None, Some, ap, ◌∙◌}
 use Rattle.uhura_flow.specs.Turns.{edges_held}
 use Rattle.uhura_flow.proofs.Settling.{held_from, possible_held, possible_loose, others_held, flow_priced, priced_edge, IsPlaced-held, IsPlaced-drained}
 use Rattle.uhura_flow.proofs.placing.lessen.Goals as goal

@@ -1,5 +1,4 @@
-use Rattle.std.proofs.Common.{◌≡◌, ℕ, ℤ, pos, ◌≤ℤ◌, Some, to_z, of_z, w64, sym, subst, ap, ◌∙◌}
-use Rattle.std.proofs.lemmas.Int.{to_z-of_z}
+use Rattle.std.proofs.Common.{◌≡◌, ℕ, ℤ, pos, ◌≤ℤ◌, Some, to_z, of_z, w64, subst, ap, ◌∙◌}
 use Rattle.uhura_flow.specs.Turns.{edges_held}
 use Rattle.uhura_flow.specs.Loops.{IsDrained, IsEmptied}
 use Rattle.uhura_flow.proofs.Kept.{bound_read}

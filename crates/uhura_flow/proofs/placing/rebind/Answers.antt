@@ -1,4 +1,4 @@
-use Rattle.std.proofs.Common.{◌≡◌, ℕ, Some, ap, ◌∙◌}
+use Rattle.std.proofs.Common.{ℕ, Some, ap, ◌∙◌}
 use Rattle.uhura_net.specs.Edges.{time_at}
 use Rattle.uhura_net.specs.Optimal.{slack_of}
 use Rattle.uhura_flow.specs.Turns.{edges_held}

@@ -1,4 +1,4 @@
-use Rattle.std.proofs.Common.{◌≡◌, ℕ, Some, ap, ◌∙◌}
+use Rattle.std.proofs.Common.{ℕ, Some, ap, ◌∙◌}
 use Rattle.uhura_flow.specs.Turns.{edges_held}
 use Rattle.uhura_flow.proofs.Settling.{held_priced, possible_held, possible_loose, others_held, flow_priced, IsPlaced-held}
 use Rattle.uhura_flow.proofs.placing.repay.Goals as goal

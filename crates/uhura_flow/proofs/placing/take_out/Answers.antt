@@ -1,5 +1,4 @@
-use Rattle.std.proofs.Common.{◌≡◌, ℕ, None, ap, ◌∙◌, subst}
-use Rattle.uhura_net.specs.Net.{NetState}
+use Rattle.std.proofs.Common.{ℕ, None, ap, ◌∙◌}
 use Rattle.uhura_flow.specs.Turns.{edges_held}
 use Rattle.uhura_flow.proofs.Settling.{held_from, possible_held, possible_without, others_held, IsPlaced-held, IsPlaced-drained, gone_edge}
 use Rattle.uhura_flow.proofs.placing.take_out.Goals as goal

@@ -1,4 +1,4 @@
-use Rattle.std.proofs.Common.{◌≡◌, ℕ, ◌+◌, ◌≤◌, ◌∷◌, List, sym, ap, subst, ◌∙◌, arith}
+use Rattle.std.proofs.Common.{◌≡◌, ℕ, ◌∷◌, sym, ap, subst, ◌∙◌, arith}
 use Rattle.uhura_net.specs.Circulation.{units_of}
 use Rattle.uhura_net.specs.Residual.{IsPushed}
 use Rattle.uhura_net.specs.Net.{NetState, IsNetCycle}

@@ -1,4 +1,4 @@
-use Rattle.std.proofs.Common.{◌≡◌, ℕ, ◌+◌, ◌<◌, ◌≤◌, ℤ, pos, List, length, sym, subst, ap, refl, ◌∙◌, arith}
+use Rattle.std.proofs.Common.{◌+◌, ◌≤◌, ℤ, pos, List, length, sym, subst, ap, refl, ◌∙◌, arith}
 use Rattle.uhura_net.specs.declared.place.Place.{Place}
 use Rattle.uhura_net.specs.Edges.{time_at}
 use Rattle.uhura_path.specs.declared.ways.Ways.TheVariants.{Firm}
@@ -32,7 +32,7 @@ join-requires-clause-place_room c =
     omega (
       arith,
       few_firm_steps c.args.net.now (time_at c.args.potentials.now) c.args.edge.to c.in-Some.path.places.now c.in-Some.path.backward.now c.args.edge.from c.search-found.result.cost
-      c.requires.sound.sound path.1.leads,
+          c.requires.sound.sound path.1.leads,
       c.requires.room,
     )
 
@@ -45,7 +45,7 @@ join-requires-clause-backward_room c =
     omega (
       arith,
       few_firm_steps c.args.net.now (time_at c.args.potentials.now) c.args.edge.to c.in-Some.path.places.now c.in-Some.path.backward.now c.args.edge.from c.search-found.result.cost
-      c.requires.sound.sound path.1.leads,
+          c.requires.sound.sound path.1.leads,
       c.deref_mut.ensures.len,
       c.args.room.now.round.backward_room,
     )
@@ -68,7 +68,8 @@ returns-in-None-clause-found c =
     let task : Task = record { root = c.args.edge.from; goal = c.args.edge.to; cap = c.args.cap } in
     let arcs = arcs_of (walkable Firm c.args.net.now) (time_at c.args.potentials.now) in
     let found = firm_found c.args.net.now c.args.potentials.now c.values.result.now task c.search-found.result c.values.ensures.values c.search-found.ensures in
-    let all = none_of arcs task c.search-found.result found c.in-None.is in
-    (possible_apart c.args.net.now c.args.potentials.now c.args.place.0 c.args.edge c.search-found.result.cost found.distance c.requires.sound c.requires.place c.requires.firm found.distances
-    found.goal (ap pos all ∙ c.requires.cap),
-    refl)
+    let all = none_of arcs task c.search-found.result found c.in-None.is in (
+      possible_apart c.args.net.now c.args.potentials.now c.args.place.0 c.args.edge c.search-found.result.cost found.distance c.requires.sound c.requires.place c.requires.firm found.distances
+          found.goal (ap pos all ∙ c.requires.cap),
+      refl,
+    )

@@ -15,9 +15,11 @@ returns-then-cap-eq0-clause-sound c =
 
 pub returns-then-cap-eq0-clause-found : goal.returns-then-cap-eq0-clause-found
 returns-then-cap-eq0-clause-found c =
-    let sound = IsOptimalNet-prepared c.args.net.now c.args.potentials.now c.prepare.new.self c.requires.sound c.prepare.ensures.prepared c.prepare.ensures.potentials.nodes in
-    (possible_with c.args.net.now c.prepare.new.self c.args.place.0 c.args.edge sound c.requires.place
-    (full_none c.prepare.new.self c.args.edge c.excess-cap.result c.excess-cap.ensures c.if-cap-eq0.true), refl)
+    let sound = IsOptimalNet-prepared c.args.net.now c.args.potentials.now c.prepare.new.self c.requires.sound c.prepare.ensures.prepared c.prepare.ensures.potentials.nodes in (
+      possible_with c.args.net.now c.prepare.new.self c.args.place.0 c.args.edge sound c.requires.place
+          (full_none c.prepare.new.self c.args.edge c.excess-cap.result c.excess-cap.ensures c.if-cap-eq0.true),
+      refl,
+    )
 
 pub close_walk-requires-clause-firm : goal.close_walk-requires-clause-firm
 close_walk-requires-clause-firm c = firm_by c.args.place.0 c.args.edge c.requires.edge c.if-edge-lt-FIRM_CAPACITY.false

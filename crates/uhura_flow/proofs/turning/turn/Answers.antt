@@ -1,4 +1,4 @@
-use Rattle.std.proofs.Common.{◌≡◌, ℕ, ◌<◌, ◌≤◌, ℤ, List, sym, subst, refl, arith}
+use Rattle.std.proofs.Common.{ℤ, List, sym, subst}
 use Rattle.uhura_net.specs.Edges.{time_at}
 use Rattle.uhura_path.specs.declared.ways.Ways.TheVariants.{Residual}
 use Rattle.uhura_path.specs.declared.task.Task.{Task}
@@ -31,10 +31,11 @@ send-requires c =
       back = c.requires.back;
     } in
     let answered : IsAnswered net before c.lift.new.self through c.search-found.result.cost found.distance =
-    record { distances = found.distances; goal = found.goal; lifted = c.lift.ensures found.distance found.reached } in
-    (c.lift.new.self,
-    ready_found net before c.lift.new.self through c.args.cap c.args.most c.search-found.result.cost found.distance c.in-Some.path.places.now c.in-Some.path.backward.now
-    c.in-Some.path.least c.lesser_of-amount.result asked answered path.0 path.1.leads path.1.least c.lesser_of-amount.ensures.first c.lesser_of-amount.ensures.second)
+    record { distances = found.distances; goal = found.goal; lifted = c.lift.ensures found.distance found.reached } in (
+      c.lift.new.self,
+      ready_found net before c.lift.new.self through c.args.cap c.args.most c.search-found.result.cost found.distance c.in-Some.path.places.now c.in-Some.path.backward.now
+          c.in-Some.path.least c.lesser_of-amount.result asked answered path.0 path.1.leads path.1.least c.lesser_of-amount.ensures.first c.lesser_of-amount.ensures.second,
+    )
 
 pub returns-in-Some : goal.returns-in-Some
 returns-in-Some c =

@@ -1,4 +1,4 @@
-use Rattle.std.proofs.Common.{◌≡◌, Some, ap, ◌∙◌}
+use Rattle.std.proofs.Common.{Some, ap, ◌∙◌}
 use Rattle.uhura_flow.specs.Flow.{FlowState}
 use Rattle.uhura_flow.proofs.Changing.{IsChanged-placed}
 use Rattle.uhura_flow.proofs.flow.Flow.insert.Goals as goal

@@ -1,9 +1,8 @@
-use Rattle.std.proofs.Common.{◌≡◌, ◌+◌, ◌≤◌, ℕ, ℤ, List, length, sym, subst, ap, ◌∙◌}
+use Rattle.std.proofs.Common.{ℕ, ℤ, List, length, sym, subst, ap, ◌∙◌}
 use Rattle.std.proofs.lemmas.List.{with_items_is}
 use Rattle.uhura_net.specs.Edges.{time_at}
 use Rattle.uhura_path.specs.Ways.{ArePotentials}
 use Rattle.uhura_path.specs.Found.{IsLifted}
-use Rattle.uhura_flow.specs.Potentials.{IsKeptBelow}
 use Rattle.uhura_flow.proofs.Kept.{IsKeptBelow-lifted}
 use Rattle.uhura_flow.proofs.potentials.Potentials.lift.Goals as goal
 

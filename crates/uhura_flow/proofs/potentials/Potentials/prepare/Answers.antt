@@ -1,7 +1,5 @@
-use Rattle.std.proofs.Common.{◌≡◌, sym, subst, ℤ, List}
 use Rattle.uhura_net.specs.Circulation.{edges_of}
-use Rattle.uhura_path.specs.Ways.{ArePotentials}
-use Rattle.uhura_flow.proofs.Kept.{ArePotentials-low, ArePotentials-narrowed}
+use Rattle.uhura_flow.proofs.Kept.{ArePotentials-narrowed}
 use Rattle.uhura_flow.proofs.potentials.Potentials.prepare.Goals as goal
 
 pub returns-then-self-gt-MOST_POTENTIAL-clause-potentials : goal.returns-then-self-gt-MOST_POTENTIAL-clause-potentials

@@ -1,5 +1,4 @@
-use Rattle.std.proofs.Common.{◌≡◌, sym, subst, ℤ, List}
-use Rattle.uhura_flow.proofs.Kept.{IsSlackRead, slack_read}
+use Rattle.uhura_flow.proofs.Kept.{slack_read}
 use Rattle.uhura_flow.proofs.potentials.Potentials.slack.Goals as goal
 
 pub returns-clause-slack : goal.returns-clause-slack
