@@ -1,0 +1,6 @@
+pub mod Learned
+pub mod Literals
+pub mod Gathered
+pub mod Kept
+pub mod Store
+pub mod Entries
