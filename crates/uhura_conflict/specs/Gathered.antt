@@ -39,11 +39,11 @@ HoldAllUsed requirements used picks = (r : Requirement) → Contains requirement
     slice_index_or used r.slot false ≡ true → IsTrue (holds r.guard picks)
 
 -- the literal is one of the guard of a requirement in a used slot
-pub record IsOfUsed (requirements : List Requirement) (used : List Bool) (literal : Literal)
+pub record IsOfUsed (requirements : List Requirement) (marks : List Bool) (literal : Literal)
     : Type 0 where
   pub requirement : Requirement
   pub among : Contains requirements requirement
-  pub used : slice_index_or used requirement.slot false ≡ true
+  pub used : slice_index_or marks requirement.slot false ≡ true
   pub literal_of : Contains requirement.guard literal
 
 -- the guards of these requirements, those in used slots, are gathered, where they can all hold

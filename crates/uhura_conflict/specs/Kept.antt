@@ -1,7 +1,6 @@
 -- Which conflicts outlast a change of the edges.
-use Rattle.std.specs.Prelude.{ℕ, nat_eq, nat_le, int_lt, pos, Bool, true, false, ◌&&◌, if◌then◌else◌, List}
+use Rattle.std.specs.Prelude.{ℕ, nat_eq, nat_le, int_lt, pos, Bool, true, false, ◌&&◌, if◌then◌else◌, List, Option, None, Some}
 use Rattle.std.specs.List.{list_all}
-use Rattle.std.specs.Option.{option_map_or}
 use Rattle.uhura_net.specs.declared.edge.Edge.{Edge}
 use Rattle.uhura_net.specs.declared.place.Place.{Place}
 use Rattle.uhura_net.specs.Edges.{Edges, edge_at}
@@ -12,11 +11,14 @@ use Rattle.uhura_conflict.specs.Learned.{Learned, places_in}
 abbrev pub is_between_same : Edge → Edge → Bool
 is_between_same a b = nat_eq a.from b.from && nat_eq a.to b.to
 
--- the edge at a place isn't gone: there still is one, between the same nodes, and it can carry the units
+-- after an edge there still is one, between the same nodes, and it can carry the units
+abbrev pub carries : Edge → Option Edge → ℕ → Bool
+carries before None units = false
+carries before (Some edge) units = is_between_same before edge && nat_le units edge.capacity
+
+-- the edge at a place isn't gone, and can carry its units
 abbrev pub still_carries : Edges → Edges → Place × ℕ → Bool
-still_carries old new pair = option_map_or
-    (λ edge. is_between_same (edge_at old pair.0.0) edge && nat_le pair.1 edge.capacity)
-    (new pair.0.0) false
+still_carries old new pair = carries (edge_at old pair.0.0) (new pair.0.0) pair.1
 
 -- the bounds at the places sum below 0
 abbrev pub sums_below_zero : Edges → List Place → Bool

@@ -68,13 +68,13 @@ abbrev pub IsBefore : ℤ → ℕ → ℤ → ℕ → Type 0
 IsBefore value key other it = (other <ℤ value) ⊎ ((other ≡ value) × (key ≤ it))
 
 -- of the flows that apply, the one under this key has the greatest value, which is above 0, and then the least key
-pub record IsGreatestFlow (at : Applying) (worth : Learned → ℤ) (value : ℤ) (key : ℕ)
+pub record IsGreatestFlow (at : Applying) (values : Learned → ℤ) (value : ℤ) (key : ℕ)
     : Type 0 where
   pub conflict : Learned
   pub there : at key conflict
-  pub worth : value ≡ worth conflict
+  pub worth : value ≡ values conflict
   pub above : pos 0 <ℤ value
-  pub greatest : (other : ℕ) (it : Learned) → at other it → IsBefore value key (worth it) other
+  pub greatest : (other : ℕ) (it : Learned) → at other it → IsBefore value key (values it) other
 
 -- the best of the conflicts that apply: a firm cycle, or else a flow, or else nothing
 abbrev pub IsBestAmong : Applying → (Learned → ℤ) → Bound → Type 0
@@ -113,10 +113,10 @@ if_it_outlasts old new conflict =
     if outlasts (edges_of old) (edges_of new) conflict then Some conflict else None
 
 -- the new table is kept, and of the conflicts exactly those that outlast the change, in their order
-pub record Revises (old new : Stored) (table : List (Option Edge)) : Type 0 where
-  pub table : new.table ≡ table
+pub record Revises (old new : Stored) (to : List (Option Edge)) : Type 0 where
+  pub table : new.table ≡ to
   pub conflicts : (key : ℕ) → conflict_at new key ≡
-      option_and_then (if_it_outlasts old.table table) (conflict_at old key)
+      option_and_then (if_it_outlasts old.table to) (conflict_at old key)
   pub order : new.order ≡ filter (λ key. is_some (conflict_at new key)) old.order
 
 -- how many pairs the conflict under a key has, and those under some keys together

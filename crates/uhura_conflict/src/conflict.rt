@@ -1,5 +1,5 @@
 //! What was learned of branches: a flow or a firm cycle.
-ghost use Rattle.std.specs.Prelude.{◌≡◌, ◌<◌, ◌↔◌, map, length, IsTrue, IfOk};
+ghost use Rattle.std.specs.Prelude.{◌≡◌, ◌<◌, ◌↔◌, map, IsTrue, IsFalse, IfOk};
 ghost use Rattle.std.specs.List.{All};
 ghost use Rattle.uhura_net.specs.declared.place.TheConstants.{PLACES};
 ghost use Rattle.uhura_conflict.specs.Learned.{places_in, AreFlowPairs, IsLearned};

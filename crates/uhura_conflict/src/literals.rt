@@ -1,10 +1,11 @@
 //! The literals of the guards of requirements, at the place of each choice.
-ghost use Rattle.std.specs.Prelude.{◌≡◌, ◌<◌, ◌^◌, ◌↔◌, IsTrue, None, Some, length, replicate, slice_set, false, All};
+ghost use Rattle.std.specs.Prelude.{◌≡◌, ◌<◌, ◌↔◌, IsTrue, None, replicate, slice_get, false, All};
 ghost use Rattle.uhura_plan.specs.declared.limits.TheConstants.{CHOICES, REQUIREMENTS};
+ghost use Rattle.uhura_choice.specs.Branch.{is_alternative};
 ghost use Rattle.uhura_net.specs.declared.place.TheConstants.{PLACES};
 ghost use Rattle.uhura_conflict.specs.Learned.{places_in};
-ghost use Rattle.uhura_conflict.specs.Literals.{slot_of, AreActiveTogether, AreLiteralsOf, Asks};
-ghost use Rattle.uhura_conflict.specs.Gathered.{ArePicked, AreUsedSlots, AreGuardsAdded, AreAllPicked};
+ghost use Rattle.uhura_conflict.specs.Literals.{slot_of, slot_of_item, AreActiveTogether, AreLiteralsOf, AreAllPicked};
+ghost use Rattle.uhura_conflict.specs.Gathered.{AreUsedSlots, IsSmallLiteral, AreAdded, AreGathered};
 
 use uhura_choice::Pick;
 use uhura_net::{Place, key_of};
@@ -65,7 +66,7 @@ fn slot_of_item(item: Item) -> Option<u32>
 /// Adds the guards of the requirements in these slots.
 fn add_guards(plan: &Plan, used: &[bool; SLOTS], literals: &mut [Option<u8>; CHOICES as usize])
     requires none { literals.old ≡ replicate CHOICES None }
-    ensures { AreGuardsAdded plan.now used.now literals.new }
+    ensures { AreGathered plan.now.requirements used.now literals.new }
 {
     for position in 0..plan.requirements() {
         let Some(requirement) = plan.requirement(position) else {
@@ -79,7 +80,7 @@ fn add_guards(plan: &Plan, used: &[bool; SLOTS], literals: &mut [Option<u8>; CHO
 
 /// Adds literals; one on a choice that has an alternative already takes its place.
 fn add_literals(guard: &[Literal], literals: &mut [Option<u8>; CHOICES as usize])
-    requires { All (λ literal. IsSmallLiteral literal) guard.now }
+    requires { All IsSmallLiteral guard.now }
     ensures { AreAdded guard.now literals.old literals.new }
 {
     for literal in guard {

@@ -1,5 +1,5 @@
 //! A store's tables, as they take over a table of edges.
-ghost use Rattle.std.specs.Prelude.{◌≡◌, ◌≢◌, ◌<◌, ◌≤◌, ℕ, is_some, filter};
+ghost use Rattle.std.specs.Prelude.{◌≡◌, ◌≢◌, ◌<◌, ◌≤◌, ℕ, is_some, filter, length};
 ghost use Rattle.slab.specs.Slab.{get};
 ghost use Rattle.uhura_conflict.specs.Entries.{AreLearned, RevisesAt};
 

@@ -1,12 +1,12 @@
 //! What pairs are worth at the bounds of a table, and whether they outlast its change.
-ghost use Rattle.std.specs.Prelude.{◌≡◌, ◌<◌, ◌≤◌, pos, ◌*ℤ◌, IsFalse, length};
+ghost use Rattle.std.specs.Prelude.{◌≡◌, ◌<◌, ◌≤◌, pos, IsFalse, length, unwrap_or, negsuc, ◌≤ℤ◌};
 ghost use Rattle.std.specs.List.{All, list_all};
 ghost use Rattle.uhura_net.specs.declared.place.TheConstants.{PLACES};
-ghost use Rattle.uhura_net.specs.Edges.{edge_at};
+ghost use Rattle.uhura_net.specs.Edges.{edge_at, no_edge};
 ghost use Rattle.uhura_net.specs.Walk.{edges_at, bounds_of};
 ghost use Rattle.uhura_net.specs.Circulation.{edges_of};
 ghost use Rattle.uhura_conflict.specs.Learned.{IsLearned, places_in, flow_value};
-ghost use Rattle.uhura_conflict.specs.Kept.{still_carries, outlasts};
+ghost use Rattle.uhura_conflict.specs.Kept.{carries, still_carries, outlasts};
 
 use crate::Conflict;
 use uhura_net::{Edge, EdgeTable, Place};
