@@ -1,11 +1,12 @@
 //! What pairs are worth at the bounds of a table, and whether they outlast its change.
-ghost use Rattle.std.specs.Prelude.{◌≡◌, ◌<◌, ◌≤◌, pos, IsFalse, length, unwrap_or, negsuc, ◌≤ℤ◌};
+ghost use Rattle.std.specs.Prelude.{◌≡◌, ◌<◌, ◌≤◌, pos, ◌*ℤ◌, IsFalse, length, unwrap_or};
 ghost use Rattle.std.specs.List.{All, list_all};
 ghost use Rattle.uhura_net.specs.declared.place.TheConstants.{PLACES};
 ghost use Rattle.uhura_net.specs.Edges.{edge_at, no_edge};
 ghost use Rattle.uhura_net.specs.Walk.{edges_at, bounds_of};
 ghost use Rattle.uhura_net.specs.Circulation.{edges_of};
 ghost use Rattle.uhura_conflict.specs.Learned.{IsLearned, places_in, flow_value};
+ghost use Rattle.uhura_conflict.specs.Worth.{IsWithin, greatest_bound, greatest_worth};
 ghost use Rattle.uhura_conflict.specs.Kept.{carries, still_carries, outlasts};
 
 use crate::Conflict;
@@ -29,17 +30,25 @@ fn pairs_worth(pairs: &[(Place, u64)], table: &EdgeTable) -> i128
 {
     let mut sum = 0;
     for (place, units) in pairs {
-        sum -= i128::from(*units) * i128::from(bound_at(table, *place));
+        sum += worth_at(*units, bound_at(table, *place));
     }
-    sum
+    -sum
+}
+
+/// A bound times units.
+fn worth_at(units: u64, bound: i64) -> i128
+    requires { IsWithin greatest_bound bound }
+    ensures worth { result ≡ pos units *ℤ bound }
+    ensures small { IsWithin greatest_worth result }
+{
+    i128::from(units) * i128::from(bound)
 }
 
 /// The bound of the edge at a place, 0 where there is none.
 fn bound_at(table: &EdgeTable, place: Place) -> i64
     requires { place.0 < PLACES }
     ensures bound { result ≡ (edge_at (edges_of table.now) place.0).bound }
-    ensures least { negsuc 19999999999999 ≤ℤ result }
-    ensures most { result ≤ℤ pos 20000000000000 }
+    ensures small { IsWithin greatest_bound result }
 {
     match table.get(place) {
         Some(edge) => edge.bound,
