@@ -60,7 +60,7 @@ best-passed at values n best none is =
     ]) is
 
 -- what a test of two integers says
-lt_z : (a b : ℤ) → int_lt a b ≡ true → a <ℤ b
+pub lt_z : (a b : ℤ) → int_lt a b ≡ true → a <ℤ b
 lt_z a b more = by_lt_z {P = a <ℤ b} a b (λ less. less) (λ least. grind (arith, ints, nat_tests))
 
 le_z : (a b : ℤ) → int_lt a b ≡ false → b ≤ℤ a

@@ -3,3 +3,5 @@ pub mod Gathering
 pub mod Walking
 pub mod Adding
 pub mod Greatest
+pub mod Passing
+pub mod Outlasting

@@ -1,6 +1,6 @@
 -- What the tables of a store show.
 use Rattle.std.specs.Option.{option_map_or}
-use Rattle.std.specs.Prelude.{◌≡◌, ℕ, ℤ, pos, int_lt, IsFalse, IfSome, List, map, sum, length, Option, option_map, option_and_then, if◌then◌else◌}
+use Rattle.std.specs.Prelude.{◌≡◌, ℕ, ℤ, pos, int_lt, IsFalse, IfSome, List, map, sum, length, Option, option_map, option_and_then, Bool, is_some, if◌then◌else◌}
 use Rattle.slab.specs.Slab.{Slab, get}
 use Rattle.uhura_net.specs.declared.edge.Edge.{Edge}
 use Rattle.uhura_net.specs.Circulation.{edges_of}
@@ -18,6 +18,10 @@ conflict_of entry = option_map (λ (e : Entry). e.conflict) entry
 abbrev pub shown_as : Slab Entry → List ℕ → List (Option Edge) → Stored
 shown_as entries order table =
     record { slots = map conflict_of entries.slots; order = order; table = table }
+
+-- the key has an entry
+abbrev pub is_held : Slab Entry → ℕ → Bool
+is_held entries key = is_some (get entries key)
 
 -- the value of an entry, if it is a flow, is what it is worth at the table
 abbrev pub IsWorth : List (Option Edge) → Entry → Type 0

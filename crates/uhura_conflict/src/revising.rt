@@ -1,7 +1,7 @@
 //! A store's tables, as they take over a table of edges.
-ghost use Rattle.std.specs.Prelude.{◌≡◌, ◌≢◌, ◌<◌, ◌≤◌, ℕ, is_some, filter, length};
+ghost use Rattle.std.specs.Prelude.{◌≡◌, ◌≢◌, ◌<◌, ◌≤◌, ℕ, filter, length};
 ghost use Rattle.slab.specs.Slab.{get};
-ghost use Rattle.uhura_conflict.specs.Entries.{AreLearned, RevisesAt};
+ghost use Rattle.uhura_conflict.specs.Entries.{is_held, RevisesAt};
 
 use crate::entry::Entry;
 use crate::worth::{flow_worth, outlasts};
@@ -36,9 +36,17 @@ fn revise_at(entries: &mut Slab<Entry>, key: usize, old: &EdgeTable, new: &EdgeT
 
 /// Keeps the keys that have an entry, in their order.
 pub(crate) fn keep_held(order: &mut Vec<usize>, entries: &Slab<Entry>)
-    ensures { order.new.items ≡ filter (λ key. is_some (get entries.now key)) order.old.items }
+    ensures { order.new.items ≡ filter (is_held entries.now) order.old.items }
 {
-    order.retain(|key| entries.contains(*key));
+    let mut kept = 0;
+    for place in 0..order.len() {
+        let key = order[place];
+        if entries.contains(key) {
+            order[kept] = key;
+            kept += 1;
+        }
+    }
+    order.truncate(kept);
 }
 
 /// Makes the one table the other.

@@ -1,6 +1,5 @@
 //! Giving up the conflicts that were added first.
-ghost use Rattle.std.specs.Prelude.{◌≡◌, ◌<◌, ◌≤◌, ◌+◌, ℕ, List, None, Contains, length, take, drop, map, sum};
-ghost use Rattle.std.specs.Option.{option_map_or};
+ghost use Rattle.std.specs.Prelude.{◌≡◌, ◌<◌, ◌≤◌, ◌⊎◌, ℕ, None, Contains, length, take, drop};
 ghost use Rattle.slab.specs.Slab.{get};
 ghost use Rattle.uhura_conflict.specs.Entries.{pairs_at, pairs_among};
 
@@ -43,6 +42,8 @@ pub(crate) fn give_up(order: &mut Vec<usize>, entries: &mut Slab<Entry>, count: 
         get entries.new key ≡ None }
     ensures others { (key : ℕ) → (Contains (take count order.old.items) key → ⊥) →
         get entries.new key ≡ get entries.old key }
+    ensures either { (key : ℕ) → (get entries.new key ≡ None)
+        ⊎ (get entries.new key ≡ get entries.old key) }
 {
     for place in 0..count {
         entries.try_remove(order[place]);
