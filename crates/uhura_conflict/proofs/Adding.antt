@@ -1,6 +1,6 @@
 -- What pairs are worth, added up one after another.
-use Rattle.std.proofs.Common.{◌≡◌, ℕ, zero, suc, ◌+◌, ◌*◌, ◌<◌, ◌≤◌, ℤ, pos, ◌+ℤ◌, ◌≤ℤ◌, List, [], ◌∷◌, length, get_or, drop, refl, sym, ap, ◌∙◌, inl, inr, cond, eqb, false, true, arith, add-one, drop-cons}
-use Rattle.std.specs.Prelude.{neg_ℤ, ◌*ℤ◌}
+use Rattle.std.proofs.Common.{◌≡◌, ℕ, zero, suc, ◌+◌, ◌*◌, ◌<◌, ◌≤◌, ℤ, pos, ◌+ℤ◌, List, [], ◌∷◌, length, get_or, drop, refl, ap, ◌∙◌, inl, inr, cond, eqb, false, true, arith, add-one, drop-cons}
+use Rattle.std.specs.Prelude.{◌*ℤ◌}
 use Rattle.std.proofs.lemmas.Int.{ints}
 use Rattle.std.proofs.lemmas.Bool.{cases_eq, eq-eqb, ne_eqb}
 use Rattle.std.proofs.Math.ListN.{drop_of_length-le}
@@ -9,10 +9,10 @@ use Rattle.uhura_net.specs.declared.place.TheConstants.{PLACES}
 use Rattle.uhura_net.specs.Edges.{Edges, edge_at}
 use Rattle.uhura_net.specs.Walk.{edges_at, bounds_of}
 use Rattle.uhura_net.specs.Sums.{int_sum_below}
-use Rattle.uhura_net.specs.Circulation.{Units, weighed_sum}
-use Rattle.uhura_net.proofs.Scaled.{scaled_parts, scaled-le, scaled-zero}
+use Rattle.uhura_net.specs.Circulation.{weighed_sum}
+use Rattle.uhura_net.proofs.Scaled.{scaled_parts, scaled-zero}
 use Rattle.uhura_net.proofs.Sums.{int_sum_below-same, int_sum_below-plus}
-use Rattle.uhura_conflict.specs.Learned.{units_in, places_in, flow_value}
+use Rattle.uhura_conflict.specs.Learned.{units_in, places_in}
 use Rattle.uhura_conflict.specs.Worth.{IsWithin}
 
 -- an integer for each pair, all together

@@ -1,5 +1,5 @@
 -- The literals of guards, gathered requirement after requirement.
-use Rattle.std.proofs.Common.{rules, ◌≡◌, ◌≢◌, ◌⊎◌, ℕ, ◌<◌, ◌≤◌, ◌+◌, Bool, true, false, List, [], ◌∷◌, ◌++◌, length, get_or, set, take, replicate, Option, Some, None, inl, inr, ap, sym, subst, refl, ◌∙◌, arith}
+use Rattle.std.proofs.Common.{rules, ◌≡◌, ℕ, ◌<◌, ◌+◌, Bool, true, false, List, [], ◌∷◌, ◌++◌, length, get_or, set, take, replicate, Option, Some, None, inl, inr, ap, sym, subst, refl, ◌∙◌, arith}
 use Rattle.std.specs.Prelude.{IsTrue, IsSomeAnd, All, Contains, slice_get}
 use Rattle.std.proofs.lemmas.Bool.{cases_eq}
 use Rattle.std.proofs.lemmas.List.{get_or-set_same, get_or-set_other, length-set, take_more, length-replicate, length-map, get_or-map}
@@ -21,7 +21,7 @@ use Rattle.uhura_choice.specs.Branch.{is_picked, holds}
 use Rattle.uhura_net.specs.declared.place.Place.{Place}
 use Rattle.uhura_net.specs.Place.{StandsAt, HasPlace, IsPlacedItem, place_number}
 use Rattle.uhura_conflict.specs.Learned.{places_in}
-use Rattle.uhura_conflict.specs.Literals.{slot_of, slot_of_item, IsOfSlot, Asks, HasPlaceAmong, IsAskedBy, AreLiteralsOf, AreActiveTogether}
+use Rattle.uhura_conflict.specs.Literals.{slot_of, slot_of_item, IsOfSlot, HasPlaceAmong, AreLiteralsOf, AreActiveTogether}
 use Rattle.uhura_conflict.specs.Gathered.{IsSlotAmong, AreUsedSlots, IsSmallLiteral, AreAdded, HoldAllUsed, IsOfUsed, AreGathered}
 use Rattle.uhura_conflict.proofs.Asking.{holds-picked}
 
@@ -97,9 +97,9 @@ pub used-same : (places : List Place) (used : List Bool) (place : Place) (key : 
 used-same places used place key stands none so_far = record {
   capacity = so_far.capacity;
   marked = λ slot among. elim (Contains-push_cases places place among.0 among.1) [
-      | inl before ↦ so_far.marked slot (among.0, before, among.2)
-      | inr here ↦ absurd (no_slot slot (one_slot key place.0 slot stands (subst (λ (p : Place). IsOfSlot p.0 slot) (sym here) among.2)) none)
-    ];
+    | inl before ↦ so_far.marked slot (among.0, before, among.2)
+    | inr here ↦ absurd (no_slot slot (one_slot key place.0 slot stands (subst (λ (p : Place). IsOfSlot p.0 slot) (sym here) among.2)) none)
+  ];
   only = λ slot marked. among-more places place slot (so_far.only slot marked);
 }
   where
@@ -140,9 +140,9 @@ gathered-more rs r used old new marked adds so_far = record {
         | inr here ↦ adds.added picks guard l (subst (λ (x : requirement.Requirement). Contains x.guard l) (sym here) it.literal_of)
       ];
   only = λ l asks. elim (adds.only l asks) [
-      | inl before ↦ of_used-more rs r used l (so_far.only l before)
-      | inr of_guard ↦ record { requirement = r; among = Contains-push rs r; used = marked; literal_of = of_guard }
-    ];
+    | inl before ↦ of_used-more rs r used l (so_far.only l before)
+    | inr of_guard ↦ record { requirement = r; among = Contains-push rs r; used = marked; literal_of = of_guard }
+  ];
 }
 
 -- one in another slot adds nothing
@@ -150,12 +150,12 @@ pub gathered-same : (rs : List requirement.Requirement) (r : requirement.Require
     AreGathered rs used literals → AreGathered (rs ++ r ∷ []) used literals
 gathered-same rs r used literals unmarked so_far = record {
   all = λ picks hold l it. elim (Contains-push_cases rs r it.requirement it.among) [
-      | inl before ↦
-          so_far.all picks (holds_fewer rs r used picks hold) l (record { requirement = it.requirement; among = before; used = it.used; literal_of = it.literal_of })
-      | inr here ↦
-          let marked : get_or used r.slot false ≡ true = subst (λ (x : requirement.Requirement). get_or used x.slot false ≡ true) (sym here) it.used in
-          absurd (cc)
-    ];
+    | inl before ↦
+        so_far.all picks (holds_fewer rs r used picks hold) l (record { requirement = it.requirement; among = before; used = it.used; literal_of = it.literal_of })
+    | inr here ↦
+        let marked : get_or used r.slot false ≡ true = subst (λ (x : requirement.Requirement). get_or used x.slot false ≡ true) (sym here) it.used in
+        absurd (cc)
+  ];
   only = λ l asks. of_used-more rs r used l (so_far.only l asks);
 }
 
@@ -164,11 +164,11 @@ pub gathered-all : (plan : Lists) (places : List Place) (used : List Bool) (lite
     AreUsedSlots places used → AreGathered plan.requirements used literals → AreLiteralsOf plan places literals
 gathered-all plan places used literals together slots gathered = record {
   all = λ l it. gathered.all together.branch hold l (record {
-      requirement = it.requirement;
-      among = it.there.in_plan;
-      used = slots.marked it.requirement.slot (it.there.place, it.there.among, it.there.of_slot);
-      literal_of = it.literal_of;
-    });
+    requirement = it.requirement;
+    among = it.there.in_plan;
+    used = slots.marked it.requirement.slot (it.there.place, it.there.among, it.there.of_slot);
+    literal_of = it.literal_of;
+  });
   only = λ l asks.
       let it = gathered.only l asks in
       record { requirement = it.requirement; there = has_place it.requirement it.among it.used; literal_of = it.literal_of };
@@ -178,6 +178,7 @@ gathered-all plan places used literals together slots gathered = record {
     has_place r among marked =
         let at = slots.only r.slot marked in
         record { place = at.0; among = at.1; of_slot = at.2; in_plan = among }
+
     hold : HoldAllUsed plan.requirements used together.branch
     hold = λ r among marked. together.active r (has_place r among marked)
 

@@ -1,5 +1,5 @@
 -- The best of the conflicts under the first keys.
-use Rattle.std.proofs.Common.{◌≡◌, ◌≢◌, ◌⊎◌, ℕ, ◌+◌, ◌<◌, ◌≤◌, ℤ, pos, ◌≤ℤ◌, ◌<ℤ◌, Bool, true, false, List, length, get_or, Option, Some, None, cond, inl, inr, ap, sym, subst, refl, ◌∙◌, arith}
+use Rattle.std.proofs.Common.{◌≡◌, ◌⊎◌, ℕ, ◌+◌, ◌<◌, ◌≤◌, ℤ, pos, ◌≤ℤ◌, ◌<ℤ◌, Bool, true, false, List, length, Option, Some, None, cond, inl, inr, ap, sym, subst, refl, ◌∙◌, arith}
 use Rattle.std.specs.Prelude.{IsTrue, IsFalse, IfSome, int_lt}
 use Rattle.std.proofs.lemmas.Int.{ints, by_lt_z}
 use Rattle.std.proofs.lemmas.Bool.Decides.{nat_tests}
@@ -14,7 +14,7 @@ use Rattle.uhura_conflict.specs.declared.bound.Bound.TheVariants.{Nothing, Flow,
 use Rattle.uhura_conflict.specs.declared.entry.Entry.{Entry}
 use Rattle.uhura_conflict.specs.Learned.{Learned}
 use Rattle.uhura_conflict.specs.Literals.{Applies}
-use Rattle.uhura_conflict.specs.Store.{Applying, NoCycle, NoFlow, IsFirstCycle, IsBefore, IsGreatestFlow, IsBestAmong, AppliesAt, conflict_at, value_at}
+use Rattle.uhura_conflict.specs.Store.{Applying, NoCycle, IsFirstCycle, IsBefore, IsGreatestFlow, IsBestAmong, AppliesAt, conflict_at, value_at}
 use Rattle.uhura_conflict.specs.Entries.{conflict_of, shown_as, IsWorth, AreWorth, with_cycle, with_flow, with_entry}
 
 -- those under the keys below one
@@ -84,9 +84,9 @@ module _ (at : Applying) (values : Learned → ℤ) (n : ℕ) (conflict : Learne
     there = (omega arith, there);
     stuck = stuck;
     least = λ key c it is_stuck. elim (split key c it) [
-        | inl before ↦ absurd (true_false is_stuck (none key c before))
-        | inr here ↦ omega (arith, here.0)
-      ];
+      | inl before ↦ absurd (true_false is_stuck (none key c before))
+      | inr here ↦ omega (arith, here.0)
+    ];
   }
 
   -- a firm cycle comes where there was none
@@ -98,16 +98,16 @@ module _ (at : Applying) (values : Learned → ℤ) (n : ℕ) (conflict : Learne
     there = (omega (arith, is.there.0), is.there.1);
     stuck = is.stuck;
     least = λ key c it is_stuck. elim (split key c it) [
-        | inl before ↦ is.least key c before is_stuck
-        | inr here ↦ omega (arith, here.0, is.there.0)
-      ];
+      | inl before ↦ is.least key c before is_stuck
+      | inr here ↦ omega (arith, here.0, is.there.0)
+    ];
   }
 
   no_cycle : IsFalse conflict.stuck → NoCycle (Below n at) → NoCycle (Below (n + 1) at)
   no_cycle flow none = λ key c it. elim (split key c it) [
-      | inl before ↦ none key c before
-      | inr here ↦ ap (λ (x : Learned). x.stuck) here.1 ∙ flow
-    ]
+    | inl before ↦ none key c before
+    | inr here ↦ ap (λ (x : Learned). x.stuck) here.1 ∙ flow
+  ]
 
   greatest_here : (above : pos 0 <ℤ values conflict) → ((key : ℕ) (c : Learned) → Below n at key c → values c <ℤ values conflict) → IsGreatestFlow (Below (n + 1) at) values (values conflict) n
   greatest_here above less = record {
@@ -116,9 +116,9 @@ module _ (at : Applying) (values : Learned → ℤ) (n : ℕ) (conflict : Learne
     worth = refl;
     above = above;
     greatest = λ key c it. elim (split key c it) [
-        | inl before ↦ inl (less key c before)
-        | inr here ↦ inr (ap values here.1, omega (arith, here.0))
-      ];
+      | inl before ↦ inl (less key c before)
+      | inr here ↦ inr (ap values here.1, omega (arith, here.0))
+    ];
   }
 
   at_least : (most value : ℤ) (first : ℕ) → first < n → value ≤ℤ most → IsBefore most first value n
@@ -141,11 +141,11 @@ module _ (at : Applying) (values : Learned → ℤ) (n : ℕ) (conflict : Learne
       worth = is.1.worth;
       above = is.1.above;
       greatest = λ key c it. elim (split key c it) [
-          | inl before ↦ is.1.greatest key c before
-          | inr here ↦
-              subst (λ k. IsBefore most first (values c) k) (sym here.0)
-              (subst (λ x. IsBefore most first (values x) n) (sym here.1) (at_least most (values conflict) first is.1.there.0 (le_z most (values conflict) less)))
-        ];
+        | inl before ↦ is.1.greatest key c before
+        | inr here ↦
+            subst (λ k. IsBefore most first (values c) k) (sym here.0)
+            (subst (λ x. IsBefore most first (values x) n) (sym here.1) (at_least most (values conflict) first is.1.there.0 (le_z most (values conflict) less)))
+      ];
     },
   )
 
@@ -172,9 +172,9 @@ module _ (at : Applying) (values : Learned → ℤ) (n : ℕ) (conflict : Learne
     there = (omega (arith, is.there.0), is.there.1);
     stuck = is.stuck;
     least = λ key c it is_stuck. elim (split key c it) [
-        | inl before ↦ is.least key c before is_stuck
-        | inr here ↦ absurd (true_false is_stuck (ap (λ (x : Learned). x.stuck) here.1 ∙ flow))
-      ];
+      | inl before ↦ is.least key c before is_stuck
+      | inr here ↦ absurd (true_false is_stuck (ap (λ (x : Learned). x.stuck) here.1 ∙ flow))
+    ];
   }
 
 module _ (entries : Slab Entry) (order : List ℕ) (table : List (Option Edge)) (picks : List Pick) where
@@ -227,7 +227,10 @@ module _ (entries : Slab Entry) (order : List ℕ) (table : List (Option Edge)) 
   best-all n best past so_far =
       best-same (Below n (AppliesAt (shown_as entries order table) picks)) (AppliesAt (shown_as entries order table) picks) (value_at (shown_as entries order table)) best
       (λ key c there. there.1)
-      (λ key c there. (elim (cases_lt key n) [
-        | inl below ↦ below
-        | inr behind ↦ absurd (no_entry c (shown_here key None c (get_or_past entries.slots key None (omega arith)) there))
-      ], there)) so_far
+      (λ key c there. (
+        elim (cases_lt key n) [
+          | inl below ↦ below
+          | inr behind ↦ absurd (no_entry c (shown_here key None c (get_or_past entries.slots key None (omega arith)) there))
+        ],
+        there,
+      )) so_far

@@ -5,3 +5,4 @@ pub mod Adding
 pub mod Greatest
 pub mod Passing
 pub mod Outlasting
+pub mod Keeping

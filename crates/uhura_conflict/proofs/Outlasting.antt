@@ -1,7 +1,7 @@
 -- What outlasts a change of the edges is valid for the new ones.
-use Rattle.std.proofs.Common.{◌≡◌, ◌⊎◌, ℕ, zero, suc, ◌+◌, ◌<◌, ◌≤◌, ℤ, pos, ◌<ℤ◌, Bool, true, false, ◌&&◌, List, [], ◌∷◌, length, get_or, Option, Some, None, unwrap_or, cond, eqb, inl, inr, ap, sym, subst, refl, ◌∙◌, arith}
-use Rattle.std.specs.Prelude.{IsTrue, IsFalse, IsSome, is_some, int_lt, nat_eq, nat_le}
-use Rattle.std.specs.List.{list_all, AllPairs}
+use Rattle.std.proofs.Common.{◌≡◌, ◌⊎◌, ℕ, zero, suc, ◌+◌, ◌<◌, ◌≤◌, pos, ◌<ℤ◌, Bool, true, false, ◌&&◌, List, [], ◌∷◌, length, get_or, Option, Some, None, unwrap_or, cond, eqb, inl, inr, ap, sym, subst, refl, ◌∙◌, arith}
+use Rattle.std.specs.Prelude.{IsFalse, IsSome, is_some, nat_le}
+use Rattle.std.specs.List.{list_all}
 use Rattle.std.specs.Bool.{MatchBool}
 use Rattle.std.proofs.lemmas.Bool.{cases_eq, eqb-true, eq-eqb, ne_eqb}
 use Rattle.std.proofs.lemmas.Bool.Decides.{nat_tests}
@@ -12,7 +12,7 @@ use Rattle.uhura_net.specs.declared.edge.Edge.{Edge}
 use Rattle.uhura_net.specs.Place.{is_loose}
 use Rattle.uhura_net.specs.Edges.{Edges, no_edge, edge_at}
 use Rattle.uhura_net.specs.Walk.{Leads, IsClosedWalk, bounds_of, edges_at, IsNegativeWalk}
-use Rattle.uhura_net.specs.Circulation.{Units, units_entering, units_leaving, IsCirculation}
+use Rattle.uhura_net.specs.Circulation.{units_entering, units_leaving, IsCirculation}
 use Rattle.uhura_net.specs.Optimal.{firm_edges}
 use Rattle.uhura_net.proofs.Sums.{sum_below-same}
 use Rattle.uhura_conflict.specs.Learned.{Learned, units_in, places_in, AreRising, AreFlowPairs, IsLearned, IsValid}
@@ -70,7 +70,7 @@ carried_at old new (pair ∷ pairs) place carried =
       | inr differs ↦
           let elsewhere : eqb pair.0.0 place ≡ false = ne_eqb pair.0.0 place differs in
           elim (carried_at old new pairs place (λ k d inside. carried (suc k) d (omega arith))) [
-            | inl none ↦ inl (ap (λ b. cond b pair.1 0 + units_in pairs place) elsewhere ∙ none)
+            | inl none ↦ let whole = ap (λ b. cond b pair.1 0 + units_in pairs place) elsewhere in inl (omega (arith, whole, none))
             | inr alike ↦ inr alike
           ]
     ]
@@ -81,7 +81,9 @@ behind [] place later = refl
 behind (pair ∷ pairs) place later =
     let here : place < pair.0.0 = later 0 pair (omega arith) in
     let elsewhere : eqb pair.0.0 place ≡ false = ne_eqb pair.0.0 place (λ same. absurd (omega arith)) in
-    ap (λ b. cond b pair.1 0 + units_in pairs place) elsewhere ∙ behind pairs place (λ k d inside. later (suc k) d (omega arith))
+    let whole = ap (λ b. cond b pair.1 0 + units_in pairs place) elsewhere in
+    let none = behind pairs place (λ k d inside. later (suc k) d (omega arith)) in
+    omega (arith, whole, none)
 
 -- so each place has room for its units
 has_room : (old new : Edges) (pairs : List (Place × ℕ)) (place : ℕ) → AreRising pairs → AreCarried old new pairs → units_in pairs place ≤ (edge_at new place).capacity
@@ -96,7 +98,8 @@ has_room old new (pair ∷ pairs) place rising carried =
           subst (λ n. n ≤ (edge_at new place).capacity) (sym all) room
       | inr differs ↦
           let elsewhere : eqb pair.0.0 place ≡ false = ne_eqb pair.0.0 place differs in
-          let all : cond (eqb pair.0.0 place) pair.1 0 + units_in pairs place ≡ units_in pairs place = ap (λ b. cond b pair.1 0 + units_in pairs place) elsewhere in
+          let all : cond (eqb pair.0.0 place) pair.1 0 + units_in pairs place ≡ units_in pairs place =
+          ap (λ b. cond b pair.1 0 + units_in pairs place) elsewhere ∙ omega arith in
           subst (λ n. n ≤ (edge_at new place).capacity) (sym all)
           (has_room old new pairs place (λ i j d before inside. rising (suc i) (suc j) d (omega arith) (omega arith)) (λ k d inside. carried (suc k) d (omega arith)))
     ]
@@ -122,12 +125,15 @@ flow-outlasts old new pairs flow carried before = record {
   where
     at_from : (place : ℕ) → (units_in pairs place ≡ 0) ⊎ ((edge_at old place).from ≡ (edge_at new place).from)
     at_from place = elim (carried_at old new pairs place carried) [ inl none ↦ inl none | inr alike ↦ inr alike.from ]
+
     at_to : (place : ℕ) → (units_in pairs place ≡ 0) ⊎ ((edge_at old place).to ≡ (edge_at new place).to)
     at_to place = elim (carried_at old new pairs place carried) [ inl none ↦ inl none | inr alike ↦ inr alike.to ]
+
     entering : (node : ℕ) → units_entering PLACES new (units_in pairs) node ≡ units_entering PLACES old (units_in pairs) node
     entering node =
         sum_below-same PLACES (λ p. cond (eqb (edge_at new p).to node) (units_in pairs p) 0) (λ p. cond (eqb (edge_at old p).to node) (units_in pairs p) 0)
         (λ p inside. same_term (edge_at old p).to (edge_at new p).to node (units_in pairs p) (at_to p))
+
     leaving : (node : ℕ) → units_leaving PLACES new (units_in pairs) node ≡ units_leaving PLACES old (units_in pairs) node
     leaving node =
         sum_below-same PLACES (λ p. cond (eqb (edge_at new p).from node) (units_in pairs p) 0) (λ p. cond (eqb (edge_at old p).from node) (units_in pairs p) 0)

@@ -1,5 +1,5 @@
 -- Entries that are looked at key after key.
-use Rattle.std.proofs.Common.{◌≡◌, ◌≢◌, ◌⊎◌, ℕ, zero, suc, ◌+◌, ◌<◌, ◌≤◌, List, [], ◌∷◌, ◌++◌, length, get_or, take, drop, map, Option, Some, None, inl, inr, ap, sym, subst, refl, ◌∙◌, arith}
+use Rattle.std.proofs.Common.{◌≡◌, ◌≢◌, ◌⊎◌, ℕ, zero, suc, ◌+◌, ◌<◌, ◌≤◌, List, [], ◌∷◌, ◌++◌, length, get_or, take, drop, map, Option, None, inl, inr, ap, sym, subst, refl, ◌∙◌, arith}
 use Rattle.std.specs.Prelude.{IfSome, Contains, option_and_then}
 use Rattle.std.proofs.lemmas.Bool.{cases_eq, cases_lt}
 use Rattle.std.proofs.lemmas.List.{get_or_past, take_more, drop_more}
@@ -90,9 +90,9 @@ gone-more old now new order count inside updates so_far =
           elim (cases_eq key first) [
             | inl same ↦ inl (subst (λ k. get new k ≡ None) (sym same) updates.changed)
             | inr differs ↦ elim (so_far.either key) [
-                | inl none ↦ inl (updates.others key differs ∙ none)
-                | inr kept ↦ inr (updates.others key differs ∙ kept)
-              ]
+              | inl none ↦ inl (updates.others key differs ∙ none)
+              | inr kept ↦ inr (updates.others key differs ∙ kept)
+            ]
           ];
     }
 

@@ -1,6 +1,5 @@
 -- How the literals of guards are gathered.
-use Rattle.std.specs.Prelude.{◌≡◌, ◌⊎◌, ◌^◌, ◌<◌, ℕ, Bool, true, false, IsTrue, List, Option, Contains, length, slice_index_or, take}
-use Rattle.uhura_plan.specs.Lists.{Lists}
+use Rattle.std.specs.Prelude.{◌≡◌, ◌⊎◌, ◌^◌, ◌<◌, ℕ, Bool, true, false, IsTrue, List, Option, Contains, length, slice_index_or}
 use Rattle.uhura_plan.specs.declared.limits.TheConstants.{CHOICES, REQUIREMENTS}
 use Rattle.uhura_plan.specs.declared.guard.Literal.{Literal}
 use Rattle.uhura_plan.specs.declared.requirement.Requirement.{Requirement}

@@ -1,5 +1,5 @@
 -- What was learned and kept, and what its calls make of it.
-use Rattle.std.specs.Prelude.{◌≡◌, ◌≢◌, ◌⊎◌, ◌↔◌, ℕ, ◌+◌, ◌<◌, ◌≤◌, ℤ, pos, ◌<ℤ◌, ◌≤ℤ◌, IsTrue, IsFalse, List, [], ◌∷◌, ◌++◌, map, take, drop, length, filter, sum, replicate}
+use Rattle.std.specs.Prelude.{◌≡◌, ◌≢◌, ◌⊎◌, ◌↔◌, ℕ, ◌<◌, ◌≤◌, ℤ, pos, ◌<ℤ◌, ◌≤ℤ◌, IsTrue, IsFalse, List, [], ◌∷◌, ◌++◌, map, take, drop, length, filter, sum, replicate}
 use Rattle.std.specs.Prelude.{Option, None, Some, IsSome, IfSome, is_some, option_and_then, if◌then◌else◌, slice_index_or, Contains}
 use Rattle.std.specs.List.{AllPairs}
 use Rattle.std.specs.Option.{option_map_or}

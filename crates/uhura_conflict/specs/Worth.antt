@@ -1,5 +1,5 @@
 -- How great sums may get.
-use Rattle.std.specs.Prelude.{ℕ, ◌*◌, ◌^◌, ℤ, pos, neg_ℤ, ◌≤ℤ◌}
+use Rattle.std.specs.Prelude.{ℕ, ◌*◌, ℤ, pos, neg_ℤ, ◌≤ℤ◌}
 
 -- the greatest bound in a table, and what as many units as there can be are worth at it
 abbrev pub greatest_bound : ℕ

@@ -14,12 +14,15 @@ use uhura_net::{Edge, EdgeTable, Place};
 
 /// What a conflict is worth, if it is a flow.
 pub(crate) fn flow_worth(conflict: &Conflict, table: &EdgeTable) -> i128
-    ensures { IsFalse conflict.now.stuck → result ≡ flow_value (edges_of table.now) conflict.now.pairs }
+    ensures worth { IsFalse conflict.now.stuck →
+        result ≡ flow_value (edges_of table.now) conflict.now.pairs }
+    ensures learned { IsLearned conflict.now }
 {
+    let pairs = conflict.units();
     if conflict.is_stuck() {
         return 0;
     }
-    pairs_worth(conflict.units(), table)
+    pairs_worth(pairs, table)
 }
 
 /// Minus the sum of the bounds times the units.

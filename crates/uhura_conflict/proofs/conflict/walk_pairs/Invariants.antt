@@ -1,4 +1,4 @@
-use Rattle.std.proofs.Common.{◌≡◌, map, take, ℕ}
+use Rattle.std.proofs.Common.{◌≡◌, map, take}
 use Rattle.uhura_net.specs.declared.place.Place.{Place}
 use Rattle.uhura_conflict.proofs.conflict.walk_pairs.Given as goal
 

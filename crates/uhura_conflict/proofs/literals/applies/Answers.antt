@@ -1,10 +1,6 @@
-use Rattle.std.proofs.Common.{◌≡◌, ◌<◌, ◌≤◌, ℕ, Option, Some, None, get_or, length, inl, inr, ap, sym, subst, refl, ◌∙◌, arith}
+use Rattle.std.proofs.Common.{◌≡◌, Some, None, get_or, inl, inr, sym, subst, refl, ◌∙◌, arith}
 use Rattle.std.proofs.lemmas.Bool.{cases_eq, cases_lt}
 use Rattle.std.proofs.lemmas.List.{get_or_past}
-use Rattle.std.specs.Prelude.{IsTrue}
-use Rattle.uhura_plan.specs.declared.guard.Literal.{Literal}
-use Rattle.uhura_choice.specs.Branch.{is_picked}
-use Rattle.uhura_conflict.specs.Literals.{Asks}
 use Rattle.uhura_conflict.proofs.Asking.{asked_picked, asked_unpicked}
 use Rattle.uhura_conflict.proofs.literals.applies.Goals as goal
 use Rattle.uhura_conflict.proofs.literals.applies.Goals.{in-Some+else-not-is_picked, in_default}
@@ -15,10 +11,10 @@ loop-choice-preserved c = λ literal below asks.
     let choice = c.loop-choice.choice in
     elim (cases_eq literal.choice choice) [
       | inl same ↦ elim c.match-literals-choice.branch [
-          | in-Some+else-not-is_picked w ↦
-              asked_picked literals c.args.picks.now choice w.in-Some.alternative literal w.in-Some.is (sym w.is_picked.ensures ∙ w.if-not-is_picked.false) same asks
-          | in_default w ↦ absurd (w.in_default.not-Some literal.alternative (subst (λ n. get_or literals n None ≡ Some literal.alternative) same asks))
-        ]
+        | in-Some+else-not-is_picked w ↦
+            asked_picked literals c.args.picks.now choice w.in-Some.alternative literal w.in-Some.is (sym w.is_picked.ensures ∙ w.if-not-is_picked.false) same asks
+        | in_default w ↦ absurd (w.in_default.not-Some literal.alternative (subst (λ n. get_or literals n None ≡ Some literal.alternative) same asks))
+      ]
       | inr differs ↦ c.loop-choice.invariant literal (omega arith) asks
     ]
 
@@ -32,10 +28,10 @@ returns-then-not-is_picked c = (
 pub returns : goal.returns
 returns c = (
   λ yes literal asks. elim (cases_lt literal.choice 16) [
-      | inl below ↦ c.loop-choice.invariant literal (omega (arith, c.loop-choice-test.false)) asks
-      | inr past ↦
-          let none : get_or c.args.literals.now literal.choice None ≡ None = get_or_past c.args.literals.now literal.choice None (omega (arith, c.told-literals)) in
-          absurd (cc)
-    ],
+    | inl below ↦ c.loop-choice.invariant literal (omega (arith, c.loop-choice-test.false)) asks
+    | inr past ↦
+        let none : get_or c.args.literals.now literal.choice None ≡ None = get_or_past c.args.literals.now literal.choice None (omega (arith, c.told-literals)) in
+        absurd (cc)
+  ],
   λ all. refl,
 )

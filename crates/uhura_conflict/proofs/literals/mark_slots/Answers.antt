@@ -1,9 +1,8 @@
-use Rattle.std.proofs.Common.{◌≡◌, ◌<◌, ◌≤◌, ◌+◌, ◌∷◌, ◌++◌, [], ℕ, List, Bool, get_or, take, length, sym, subst, ap, ◌∙◌, arith}
+use Rattle.std.proofs.Common.{◌≡◌, ◌≤◌, ◌+◌, ◌∷◌, ◌++◌, [], ℕ, List, Bool, get_or, take, length, sym, subst, ◌∙◌, arith}
 use Rattle.std.proofs.lemmas.List.{take_all, length-map}
 use Rattle.uhura_net.specs.declared.place.Place.{Place}
 use Rattle.uhura_net.specs.Place.{StandsAt}
 use Rattle.uhura_conflict.specs.Learned.{places_in}
-use Rattle.uhura_conflict.specs.Literals.{slot_of}
 use Rattle.uhura_conflict.specs.Gathered.{AreUsedSlots}
 use Rattle.uhura_conflict.proofs.Gathering.{slot-small, used-none, used-more, used-same, next_place}
 use Rattle.uhura_conflict.proofs.literals.mark_slots.Goals as goal

@@ -1,8 +1,7 @@
-use Rattle.std.proofs.Common.{◌≡◌, ◌<◌, ◌≤◌, ◌+◌, ℕ, List, Option, Some, None, length, sym, subst, ap, ◌∙◌, arith}
+use Rattle.std.proofs.Common.{◌≡◌, ◌≤◌, ◌+◌, None, length, sym, subst, ap, ◌∙◌, arith}
 use Rattle.std.specs.Prelude.{option_copied}
 use Rattle.slab.specs.Slab.{get}
 use Rattle.uhura_conflict.specs.declared.bound.Bound.{Bound}
-use Rattle.uhura_conflict.specs.declared.entry.Entry.{Entry}
 use Rattle.uhura_conflict.specs.Store.{AppliesAt, value_at, IsBestAmong}
 use Rattle.uhura_conflict.specs.Entries.{shown_as}
 use Rattle.uhura_conflict.proofs.Greatest.{Below, true_false, best-none, best-with_entry, best-without_entry, best-at_none, best-all}

@@ -1,4 +1,4 @@
-use Rattle.std.proofs.Common.{ℕ, ◌<◌, List, Option}
+use Rattle.std.proofs.Common.{ℕ, List, Option}
 use Rattle.uhura_net.specs.declared.edge.Edge.{Edge}
 use Rattle.uhura_conflict.specs.Store.{AppliesAt, value_at, IsBestAmong}
 use Rattle.uhura_conflict.specs.Entries.{shown_as, AreWorth}

@@ -1,7 +1,6 @@
-use Rattle.std.proofs.Common.{◌≡◌, ◌<◌, ◌≤◌, ℕ, length, get_or, set, None, Option, inl, inr, ap, sym, subst, ◌∙◌, arith}
+use Rattle.std.proofs.Common.{◌≡◌, ◌<◌, length, get_or, set, None, inl, inr, ap, sym, subst, ◌∙◌, arith}
 use Rattle.std.proofs.lemmas.Bool.{cases_eq}
 use Rattle.std.proofs.lemmas.List.{get_or-set_same, get_or-set_other, get_or_default, length-set, same_lists}
-use Rattle.uhura_net.specs.declared.edge.Edge.{Edge}
 use Rattle.uhura_conflict.proofs.revising.copy_table.Goals as goal
 
 pub loop-number-preserved : goal.loop-number-preserved
@@ -26,5 +25,5 @@ returns c =
     let many = c.loop-number.invariant.2 (omega arith) in
     same_lists c.loop-number.to c.args.from.now same
     (λ k d below.
-      get_or_default c.loop-number.to k d None below
-      ∙ (c.loop-number.invariant.1 k (omega arith) ∙ get_or_default c.args.from.now k None d (omega arith)))
+    get_or_default c.loop-number.to k d None below
+    ∙ (c.loop-number.invariant.1 k (omega arith) ∙ get_or_default c.args.from.now k None d (omega arith)))

@@ -5,4 +5,4 @@ use Rattle.uhura_conflict.proofs.revising.copy_table.Given as goal
 -- the first places are copied
 abbrev pub invariant-loop-number : goal.invariant-loop-number
 invariant-loop-number l = (1 ≤ l.number → length l.to ≡ length l.from) × ((place : ℕ) → place < l.number → get_or l.to place None ≡ get_or l.from place None)
-  × (1 ≤ l.number → length l.from ≡ PLACES)
+    × (1 ≤ l.number → length l.from ≡ PLACES)

@@ -1,4 +1,3 @@
-use Rattle.std.proofs.Common.{◌≡◌}
 use Rattle.uhura_conflict.proofs.Passing.{AreGivenUp}
 use Rattle.uhura_conflict.proofs.trimming.give_up.Given as goal
 

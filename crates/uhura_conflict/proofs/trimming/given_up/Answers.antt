@@ -1,6 +1,6 @@
-use Rattle.std.proofs.Common.{◌≡◌, ◌<◌, ◌≤◌, ◌+◌, ◌-◌, ℕ, [], get_or, drop, length, ap, sym, subst, refl, ◌∙◌, arith}
+use Rattle.std.proofs.Common.{◌≡◌, ◌+◌, ◌-◌, drop, length, ap, sym, subst, arith}
 use Rattle.std.proofs.lemmas.List.{drop_all}
-use Rattle.uhura_conflict.specs.Entries.{pairs_at, pairs_among}
+use Rattle.uhura_conflict.specs.Entries.{pairs_among}
 use Rattle.uhura_conflict.proofs.Passing.{pairs_among-drop, pairs_among-fewer}
 use Rattle.uhura_conflict.proofs.trimming.given_up.Goals as goal
 
