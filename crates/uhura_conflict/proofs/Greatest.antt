@@ -1,5 +1,5 @@
 -- The best of the conflicts under the first keys.
-use Rattle.std.proofs.Common.{◌≡◌, ◌⊎◌, ℕ, ◌+◌, ◌<◌, ◌≤◌, ℤ, pos, ◌≤ℤ◌, ◌<ℤ◌, Bool, true, false, List, length, Option, Some, None, cond, inl, inr, ap, sym, subst, refl, ◌∙◌, arith}
+use Rattle.std.proofs.Common.{◌≡◌, ◌⊎◌, ℕ, ◌+◌, ◌<◌, ◌≤◌, ℤ, pos, ◌≤ℤ◌, ◌<ℤ◌, Bool, true, false, ◌||◌, List, length, Option, Some, None, cond, inl, inr, ap, sym, subst, refl, ◌∙◌, arith}
 use Rattle.std.specs.Prelude.{IsTrue, IsFalse, IfSome, int_lt}
 use Rattle.std.proofs.lemmas.Int.{ints, by_lt_z}
 use Rattle.std.proofs.lemmas.Bool.Decides.{nat_tests}
@@ -15,7 +15,7 @@ use Rattle.uhura_conflict.specs.declared.entry.Entry.{Entry}
 use Rattle.uhura_conflict.specs.Learned.{Learned}
 use Rattle.uhura_conflict.specs.Literals.{Applies}
 use Rattle.uhura_conflict.specs.Store.{Applying, NoCycle, IsFirstCycle, IsBefore, IsGreatestFlow, IsBestAmong, AppliesAt, conflict_at, value_at}
-use Rattle.uhura_conflict.specs.Entries.{conflict_of, shown_as, IsWorth, AreWorth, with_cycle, with_flow, with_entry}
+use Rattle.uhura_conflict.specs.Entries.{conflict_of, shown_as, IsWorth, AreWorth, exceeds, with_cycle, with_flow, with_entry}
 
 -- those under the keys below one
 abbrev pub Below : ℕ → Applying → Applying
@@ -177,6 +177,60 @@ module _ (at : Applying) (values : Learned → ℤ) (n : ℕ) (conflict : Learne
     ];
   }
 
+-- what would not change the best leaves it
+kept_by : {X : Type 0} (a b c : X) (one other : Bool) → (one || other) ≡ false → cond one a (cond other b c) ≡ c
+kept_by a b c true other none = absurd (cc)
+kept_by a b c false true none = absurd (cc)
+kept_by a b c false false none = refl
+
+same_by : {X : Type 0} (a : X) (one : Bool) → cond one a a ≡ a
+same_by a true = refl
+same_by a false = refl
+
+unexceeded : (best : Bound) (entry : Entry) (n : ℕ) → exceeds best entry ≡ false → with_entry best entry n ≡ best
+unexceeded Nothing entry n none = kept_by (Stuck n) (Flow entry.value n) Nothing entry.conflict.stuck (int_lt (pos 0) entry.value) none
+unexceeded (Flow most first) entry n none = kept_by (Stuck n) (Flow entry.value n) (Flow most first) entry.conflict.stuck (int_lt most entry.value) none
+unexceeded (Stuck first) entry n none = same_by (Stuck first) entry.conflict.stuck
+
+-- what is the best where the conflict under a key applies is the best
+best-lift : (at : Applying) (values : Learned → ℤ) (n : ℕ) (best : Bound) → ((c : Learned) → at n c → IsBestAmong (Below (n + 1) at) values best) → IsBestAmong (Below n at) values best →
+    IsBestAmong (Below (n + 1) at) values best
+best-lift at values n Nothing here is = (
+  λ key c it. elim (cases_eq key n) [
+    | inl same ↦ (here c (subst (λ k. at k c) same it.1)).0 key c it
+    | inr differs ↦ is.0 key c (omega (arith, it.0), it.1)
+  ],
+  λ key c it. elim (cases_eq key n) [
+    | inl same ↦ (here c (subst (λ k. at k c) same it.1)).1 key c it
+    | inr differs ↦ is.1 key c (omega (arith, it.0), it.1)
+  ],
+)
+best-lift at values n (Flow most first) here is = (
+  λ key c it. elim (cases_eq key n) [
+    | inl same ↦ (here c (subst (λ k. at k c) same it.1)).0 key c it
+    | inr differs ↦ is.0 key c (omega (arith, it.0), it.1)
+  ],
+  record {
+    conflict = is.1.conflict;
+    there = (omega (arith, is.1.there.0), is.1.there.1);
+    worth = is.1.worth;
+    above = is.1.above;
+    greatest = λ key c it. elim (cases_eq key n) [
+      | inl same ↦ (here c (subst (λ k. at k c) same it.1)).1.greatest key c it
+      | inr differs ↦ is.1.greatest key c (omega (arith, it.0), it.1)
+    ];
+  },
+)
+best-lift at values n (Stuck first) here is = record {
+  conflict = is.conflict;
+  there = (omega (arith, is.there.0), is.there.1);
+  stuck = is.stuck;
+  least = λ key c it is_stuck. elim (cases_eq key n) [
+    | inl same ↦ (here c (subst (λ k. at k c) same it.1)).least key c it is_stuck
+    | inr differs ↦ is.least key c (omega (arith, it.0), it.1) is_stuck
+  ];
+}
+
 module _ (entries : Slab Entry) (order : List ℕ) (table : List (Option Edge)) (picks : List Pick) where
   shown_here : (key : ℕ) (found : Option Entry) (c : Learned) → get entries key ≡ found → AppliesAt (shown_as entries order table) picks key c → conflict_of found ≡ Some c
   shown_here key found c is at = sym (ap conflict_of is) ∙ (sym (shown_at entries order table key) ∙ at.there)
@@ -209,6 +263,16 @@ module _ (entries : Slab Entry) (order : List ℕ) (table : List (Option Edge)) 
   best-without_entry n entry best is never so_far =
       best-passed (AppliesAt (shown_as entries order table) picks) (value_at (shown_as entries order table)) n best
       (λ c at. never (subst (λ (x : Learned). Applies picks x) (some_same (shown_here n (Some entry) c is at)) at.applies)) so_far
+
+  -- one that would not change what is known
+  pub best-unexceeded : (n : ℕ) (entry : Entry) (best : Bound) → get entries n ≡ Some entry → exceeds best entry ≡ false → AreWorth entries table →
+      IsBestAmong (Below n (AppliesAt (shown_as entries order table) picks)) (value_at (shown_as entries order table)) best →
+      IsBestAmong (Below (n + 1) (AppliesAt (shown_as entries order table) picks)) (value_at (shown_as entries order table)) best
+  best-unexceeded n entry best is none worth so_far =
+      best-lift (AppliesAt (shown_as entries order table) picks) (value_at (shown_as entries order table)) n best
+      (λ c at.
+      subst (λ b. IsBestAmong (Below (n + 1) (AppliesAt (shown_as entries order table) picks)) (value_at (shown_as entries order table)) b) (unexceeded best entry n none)
+      (best-with_entry n entry best is (subst (λ (x : Learned). Applies picks x) (some_same (shown_here n (Some entry) c is at)) at.applies) worth so_far)) so_far
 
   no_entry : (c : Learned) → conflict_of None ≡ Some c → ⊥
   no_entry c is = absurd (cc)

@@ -1,6 +1,6 @@
 -- What the tables of a store show.
 use Rattle.std.specs.Option.{option_map_or}
-use Rattle.std.specs.Prelude.{◌≡◌, ℕ, ℤ, pos, int_lt, IsFalse, IfSome, List, map, sum, length, Option, option_map, option_and_then, Bool, is_some, if◌then◌else◌}
+use Rattle.std.specs.Prelude.{◌≡◌, ℕ, ℤ, pos, int_lt, IsFalse, IfSome, List, map, sum, length, Option, option_map, option_and_then, Bool, false, ◌||◌, is_some, if◌then◌else◌}
 use Rattle.slab.specs.Slab.{Slab, get}
 use Rattle.uhura_net.specs.declared.edge.Edge.{Edge}
 use Rattle.uhura_net.specs.Circulation.{edges_of}
@@ -49,6 +49,12 @@ with_flow Nothing value key = if int_lt (pos 0) value then Flow value key else N
 abbrev pub with_entry : Bound → Entry → ℕ → Bound
 with_entry best entry key =
     if entry.conflict.stuck then with_cycle best key else with_flow best entry.value key
+
+-- an entry would change what is known, if it applies
+abbrev pub exceeds : Bound → Entry → Bool
+exceeds (Stuck first) entry = false
+exceeds (Flow most first) entry = entry.conflict.stuck || int_lt most entry.value
+exceeds Nothing entry = entry.conflict.stuck || int_lt (pos 0) entry.value
 
 -- the entry under a key is kept where it outlasts the change of tables, and is worth what it is worth at the new one
 pub record RevisesAt (old new : Slab Entry) (from to : List (Option Edge)) (key : ℕ)

@@ -3,7 +3,7 @@ ghost use Rattle.std.specs.Prelude.{◌≡◌, ◌<◌, ℕ, List, Option, IfSom
 ghost use Rattle.slab.specs.Slab.{get};
 ghost use Rattle.uhura_net.specs.declared.edge.Edge.{Edge};
 ghost use Rattle.uhura_conflict.specs.Store.{IsBest};
-ghost use Rattle.uhura_conflict.specs.Entries.{shown_as, AreWorth, with_cycle, with_flow, with_entry};
+ghost use Rattle.uhura_conflict.specs.Entries.{shown_as, AreWorth, exceeds, with_cycle, with_flow, with_entry};
 
 use crate::Bound;
 use crate::entry::Entry;
@@ -18,12 +18,23 @@ pub(crate) fn best_in(entries: &Slab<Entry>, picks: &[Pick]) -> Bound
     let mut best = Bound::Nothing;
     for key in 0..entries.capacity() {
         if let Some(entry) = entries.get(key) {
-            if entry.conflict.applies(picks) {
+            if exceeds(best, entry) && entry.conflict.applies(picks) {
                 best = with_entry(best, entry, key);
             }
         }
     }
     best
+}
+
+/// Whether an entry would change what is known, if it applies: it is quicker to tell than whether it does.
+fn exceeds(best: Bound, entry: &Entry) -> bool
+    ensures { result ≡ exceeds best entry.now }
+{
+    match best {
+        Bound::Stuck { .. } => false,
+        Bound::Flow { value: most, .. } => entry.conflict.is_stuck() || most < entry.value,
+        Bound::Nothing => entry.conflict.is_stuck() || 0 < entry.value,
+    }
 }
 
 /// What is known where the entry under a later key applies too.
