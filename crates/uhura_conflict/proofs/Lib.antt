@@ -6,3 +6,4 @@ pub mod Greatest
 pub mod Passing
 pub mod Outlasting
 pub mod Keeping
+pub mod Untouched

@@ -148,7 +148,7 @@ firm_alike : (old new : Edges) (place : ℕ) → IsSome (firm_edges old place) �
 firm_alike old new place there = firm_at (old place) (new place) (is_loose place) there
 
 -- so that along a walk they are the edges
-firm_along : (old new : Edges) (places : List Place) → ((k : ℕ) (d : Place) → k < length places → IsSome (firm_edges old (get_or places k d).0)) → edges_at (firm_edges new) places ≡ edges_at new places
+pub firm_along : (old new : Edges) (places : List Place) → ((k : ℕ) (d : Place) → k < length places → IsSome (firm_edges old (get_or places k d).0)) → edges_at (firm_edges new) places ≡ edges_at new places
 firm_along old new [] there = refl
 firm_along old new (place ∷ places) there =
     ap (λ found. unwrap_or found no_edge ∷ edges_at (firm_edges new) places) (firm_alike old new place.0 (there 0 place (omega arith)))

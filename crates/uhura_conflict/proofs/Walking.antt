@@ -12,3 +12,7 @@ places_of_walk (place ∷ cycle) = ap (λ (rest : List Place). place ∷ rest) (
 
 pub inside_of_walk : (cycle : List Place) → All (λ (place : Place). place.0 < PLACES) cycle → All (λ (pair : Place × ℕ). pair.0.0 < PLACES) (map (λ (place : Place). (place, 1)) cycle)
 inside_of_walk cycle inside = All-map (λ (pair : Place × ℕ). pair.0.0 < PLACES) (λ (place : Place). (place, 1)) cycle inside
+
+-- each place has 1 unit
+pub ones_of_walk : (cycle : List Place) → All (λ (pair : Place × ℕ). pair.1 ≡ 1) (map (λ (place : Place). (place, 1)) cycle)
+ones_of_walk cycle = All-map (λ (pair : Place × ℕ). pair.1 ≡ 1) (λ (place : Place). (place, 1)) cycle (λ k d inside. refl)

@@ -1,5 +1,5 @@
 -- What was learned of branches: a circulation, whose value bounds their costs from below, or a walk that no times keep.
-use Rattle.std.specs.Prelude.{◌≡◌, ℕ, ◌+◌, ◌==◌, ◌<◌, ◌≤◌, ℤ, Bool, IsFalse, if◌then◌else◌, List, [], ◌∷◌, map, length, Option}
+use Rattle.std.specs.Prelude.{◌≡◌, ℕ, ◌+◌, ◌==◌, ◌<◌, ◌≤◌, ℤ, Bool, IsTrue, IsFalse, if◌then◌else◌, List, [], ◌∷◌, map, length, Option}
 use Rattle.std.specs.Bool.{MatchBool}
 use Rattle.std.specs.List.{All, AllPairs}
 use Rattle.uhura_net.specs.declared.place.Place.{Place}
@@ -35,9 +35,11 @@ pub record AreFlowPairs (pairs : List (Place × ℕ)) : Type 0 where
   pub rising : AreRising pairs
   pub few : length pairs ≤ PLACES
 
--- each place is one, and those of a flow stand in order
+-- each place is one and has units, those of a flow stand in order, and those of a firm cycle have 1 unit each
 pub record IsLearned (conflict : Learned) : Type 0 where
   pub inside : All (λ pair. pair.0.0 < PLACES) conflict.pairs
+  pub some : All (λ pair. 1 ≤ pair.1) conflict.pairs
+  pub walk : IsTrue conflict.stuck → All (λ pair. pair.1 ≡ 1) conflict.pairs
   pub flow : IsFalse conflict.stuck → AreFlowPairs conflict.pairs
 
 -- a conflict is valid for edges where it is a closed walk of them, none loose, whose bounds sum below 0, or, as a

@@ -1,5 +1,5 @@
 //! What was learned of branches: a flow or a firm cycle.
-ghost use Rattle.std.specs.Prelude.{◌≡◌, ◌<◌, ◌↔◌, map, IsTrue, IsFalse, IfOk};
+ghost use Rattle.std.specs.Prelude.{◌≡◌, ◌<◌, ◌≤◌, ◌↔◌, map, IsTrue, IsFalse, IfOk};
 ghost use Rattle.std.specs.List.{All};
 ghost use Rattle.uhura_net.specs.declared.place.TheConstants.{PLACES};
 ghost use Rattle.uhura_conflict.specs.Learned.{places_in, AreFlowPairs, IsLearned};
@@ -60,6 +60,8 @@ impl Conflict {
         stuck: bool,
     ) -> Result<Conflict, AllocError>
         requires inside { All (λ pair. pair.0.0 < PLACES) pairs.items }
+        requires some { All (λ pair. 1 ≤ pair.1) pairs.items }
+        requires walk { IsTrue stuck → All (λ pair. pair.1 ≡ 1) pairs.items }
         requires flow { IsFalse stuck → AreFlowPairs pairs.items }
         requires together { AreActiveTogether plan.now (places_in pairs.items) }
         ensures stuck { IfOk result (λ c. c.stuck ≡ stuck) }
