@@ -7,3 +7,4 @@ pub mod Passing
 pub mod Outlasting
 pub mod Keeping
 pub mod Untouched
+pub mod Differing

@@ -1,14 +1,15 @@
 -- What the tables of a store show.
 use Rattle.std.specs.Option.{option_map_or}
-use Rattle.std.specs.Prelude.{◌≡◌, ℕ, ℤ, pos, int_lt, IsFalse, IfSome, List, map, sum, length, Option, option_map, option_and_then, Bool, false, ◌||◌, is_some, if◌then◌else◌}
+use Rattle.std.specs.Prelude.{◌≡◌, ℕ, ℤ, pos, int_lt, IsFalse, IfSome, All, List, map, sum, length, Option, option_map, option_and_then, Bool, false, ◌||◌, is_some, if◌then◌else◌}
 use Rattle.slab.specs.Slab.{Slab, get}
 use Rattle.uhura_net.specs.declared.edge.Edge.{Edge}
 use Rattle.uhura_net.specs.Circulation.{edges_of}
 use Rattle.uhura_conflict.specs.declared.bound.Bound.{Bound}
 use Rattle.uhura_conflict.specs.declared.bound.Bound.TheVariants.{Nothing, Flow, Stuck}
 use Rattle.uhura_conflict.specs.declared.entry.Entry.{Entry}
-use Rattle.uhura_conflict.specs.Learned.{Learned, IsLearned, flow_value}
-use Rattle.uhura_conflict.specs.Store.{Stored, if_it_outlasts}
+use Rattle.uhura_conflict.specs.Learned.{Learned, IsLearned, IsValid, flow_value}
+use Rattle.uhura_conflict.specs.Marked.{IsUnmarked}
+use Rattle.uhura_conflict.specs.Store.{Stored, IsStore, if_it_outlasts}
 
 -- the conflict of an entry
 abbrev pub conflict_of : Option Entry → Option Learned
@@ -31,6 +32,12 @@ IsWorth table entry = IsFalse entry.conflict.stuck →
 -- and so for each entry
 abbrev pub AreWorth : Slab Entry → List (Option Edge) → Type 0
 AreWorth entries table = (key : ℕ) → IfSome (get entries key) (IsWorth table)
+
+-- what a store keeps of its tables
+pub record IsHeldStore (entries : Slab Entry) (order : List ℕ) (table : List (Option Edge))
+    : Type 0 where
+  pub sound : IsStore (shown_as entries order table)
+  pub worth : AreWorth entries table
 
 -- a firm cycle under a later key comes where there was none
 abbrev pub with_cycle : Bound → ℕ → Bound
@@ -63,9 +70,15 @@ pub record RevisesAt (old new : Slab Entry) (from to : List (Option Edge)) (key 
       option_and_then (if_it_outlasts from to) (conflict_of (get old key))
   pub worth : IfSome (get new key) (IsWorth to)
 
--- each entry is learned
-abbrev pub AreLearned : Slab Entry → Type 0
-AreLearned entries = (key : ℕ) → IfSome (get entries key) (λ e. IsLearned e.conflict)
+-- the conflict of an entry is valid for the table, at which the entry is worth its value
+pub record IsKeptFor (table : List (Option Edge)) (entry : Entry) : Type 0 where
+  pub learned : IsLearned entry.conflict
+  pub valid : IsValid (edges_of table) entry.conflict
+  pub worth : IsWorth table entry
+
+-- no mark stands at a place of the entry
+abbrev pub IsUntouched : List Bool → Entry → Type 0
+IsUntouched changed entry = All (IsUnmarked changed) entry.conflict.pairs
 
 -- how many pairs the entry under a key has, and those under some keys together
 abbrev pub pairs_at : Slab Entry → ℕ → ℕ

@@ -5,6 +5,7 @@
 #![tactic(auto)]
 
 mod bound;
+mod comparing;
 mod conflict;
 mod entry;
 mod literals;
