@@ -1,6 +1,6 @@
 -- What the tables of a store show.
 use Rattle.std.specs.Option.{option_map_or}
-use Rattle.std.specs.Prelude.{◌≡◌, ℕ, ℤ, pos, int_lt, IsFalse, IfSome, All, List, map, sum, length, Option, option_map, option_and_then, Bool, false, ◌||◌, is_some, if◌then◌else◌}
+use Rattle.std.specs.Prelude.{◌≡◌, ℕ, pos, int_lt, IsFalse, IfSome, All, List, map, sum, length, Option, option_map, option_and_then, Bool, false, ◌||◌, is_some, if◌then◌else◌}
 use Rattle.slab.specs.Slab.{Slab, get}
 use Rattle.uhura_net.specs.declared.edge.Edge.{Edge}
 use Rattle.uhura_net.specs.Circulation.{edges_of}
@@ -39,29 +39,15 @@ pub record IsHeldStore (entries : Slab Entry) (order : List ℕ) (table : List (
   pub sound : IsStore (shown_as entries order table)
   pub worth : AreWorth entries table
 
--- a firm cycle under a later key comes where there was none
-abbrev pub with_cycle : Bound → ℕ → Bound
-with_cycle (Stuck first) key = Stuck first
-with_cycle (Flow value first) key = Stuck key
-with_cycle Nothing key = Stuck key
-
--- a flow under a later key comes where it is worth more than what there was
-abbrev pub with_flow : Bound → ℤ → ℕ → Bound
-with_flow (Stuck first) value key = Stuck first
-with_flow (Flow most first) value key =
-    if int_lt most value then Flow value key else Flow most first
-with_flow Nothing value key = if int_lt (pos 0) value then Flow value key else Nothing
-
--- what is known where the entry under a later key applies
-abbrev pub with_entry : Bound → Entry → ℕ → Bound
-with_entry best entry key =
-    if entry.conflict.stuck then with_cycle best key else with_flow best entry.value key
-
 -- an entry would change what is known, if it applies
 abbrev pub exceeds : Bound → Entry → Bool
 exceeds (Stuck first) entry = false
 exceeds (Flow most first) entry = entry.conflict.stuck || int_lt most entry.value
 exceeds Nothing entry = entry.conflict.stuck || int_lt (pos 0) entry.value
+
+-- what an entry tells
+abbrev pub bound_of : Entry → ℕ → Bound
+bound_of entry key = if entry.conflict.stuck then Stuck key else Flow entry.value key
 
 -- the entry under a key is kept where it outlasts the change of tables, and is worth what it is worth at the new one
 pub record RevisesAt (old new : Slab Entry) (from to : List (Option Edge)) (key : ℕ)
