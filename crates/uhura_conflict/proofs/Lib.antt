@@ -8,3 +8,4 @@ pub mod Outlasting
 pub mod Keeping
 pub mod Untouched
 pub mod Differing
+pub mod Serving

@@ -145,7 +145,7 @@ same_at old new (pair ∷ pairs) place same =
           ]
     ]
 
-same_worth : (units : ℕ) (old new : Option Edge) → (units ≡ 0) ⊎ (new ≡ old) → pos units *ℤ (unwrap_or new no_edge).bound ≡ pos units *ℤ (unwrap_or old no_edge).bound
+pub same_worth : (units : ℕ) (old new : Option Edge) → (units ≡ 0) ⊎ (new ≡ old) → pos units *ℤ (unwrap_or new no_edge).bound ≡ pos units *ℤ (unwrap_or old no_edge).bound
 same_worth units old new (inl none) =
     subst (λ n. pos n *ℤ (unwrap_or new no_edge).bound ≡ pos n *ℤ (unwrap_or old no_edge).bound) (sym none)
     (scaled-zero (unwrap_or new no_edge).bound ∙ sym (scaled-zero (unwrap_or old no_edge).bound))

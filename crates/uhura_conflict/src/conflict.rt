@@ -1,8 +1,8 @@
 //! What was learned of branches: a flow or a firm cycle.
-ghost use Rattle.std.specs.Prelude.{◌≡◌, ◌<◌, ◌≤◌, ◌↔◌, map, IsTrue, IsFalse, IfOk};
+ghost use Rattle.std.specs.Prelude.{◌≡◌, ◌<◌, ◌≤◌, ◌↔◌, IsTrue, IsFalse, IfOk};
 ghost use Rattle.std.specs.List.{All};
 ghost use Rattle.uhura_net.specs.declared.place.TheConstants.{PLACES};
-ghost use Rattle.uhura_conflict.specs.Learned.{places_in, AreFlowPairs, IsLearned};
+ghost use Rattle.uhura_conflict.specs.Learned.{places_in, AreFlowPairs, IsLearned, walk_pairs};
 ghost use Rattle.uhura_conflict.specs.Literals.{AreActiveTogether, AreLiteralsOf, Applies};
 
 use crate::literals::{applies, literals_of};
@@ -47,7 +47,7 @@ impl Conflict {
         requires inside { All (λ place. place.0 < PLACES) cycle.now }
         requires together { AreActiveTogether plan.now cycle.now }
         ensures stuck { IfOk result (λ c. IsTrue c.stuck) }
-        ensures pairs { IfOk result (λ c. c.pairs ≡ map (λ place. (place, 1)) cycle.now) }
+        ensures pairs { IfOk result (λ c. c.pairs ≡ walk_pairs cycle.now) }
         ensures literals { IfOk result (λ c. AreLiteralsOf plan.now cycle.now c.literals) }
     {
         Conflict::of_pairs(plan, walk_pairs(alloc, cycle)?, true)
@@ -112,7 +112,7 @@ impl Conflict {
 
 /// The places of a walk, in its order, with 1 unit each.
 fn walk_pairs(alloc: Global, cycle: &[Place]) -> Result<Vec<(Place, u64)>, AllocError>
-    ensures { IfOk result (λ pairs. pairs.items ≡ map (λ place. (place, 1)) cycle.now) }
+    ensures { IfOk result (λ pairs. pairs.items ≡ walk_pairs cycle.now) }
 {
     let mut pairs = Vec::with_capacity(alloc, cycle.len())?;
     for place in cycle {
