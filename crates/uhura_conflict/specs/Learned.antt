@@ -1,4 +1,5 @@
--- What was learned of branches: a circulation, whose value bounds their costs from below, or a walk that no times keep.
+-- What was learned of branches: a circulation, whose value bounds their costs from below, or a walk that no times
+-- keep.
 use Rattle.std.specs.Prelude.{◌≡◌, ℕ, ◌+◌, ◌==◌, ◌<◌, ◌≤◌, ℤ, Bool, IsTrue, IsFalse, if◌then◌else◌, List, [], ◌∷◌, map, length, Option, Some}
 use Rattle.std.specs.Bool.{MatchBool}
 use Rattle.std.specs.List.{All, AllPairs}
@@ -10,8 +11,8 @@ use Rattle.uhura_net.specs.Walk.{IsNegativeWalk}
 use Rattle.uhura_net.specs.Circulation.{Units, IsCirculation, value_of}
 use Rattle.uhura_net.specs.Optimal.{firm_edges}
 
--- a conflict: places with their units; whether it is a firm cycle, whose places are a walk, or a flow; and at the place
--- of each choice the alternative that it asks for, or nothing
+-- a conflict: places with their units; whether it is a firm cycle, whose places are a walk, or a flow; and at the
+-- place of each choice the alternative that it asks for, or nothing
 pub record Learned : Type 0 where
   pub pairs : List (Place × ℕ)
   pub stuck : Bool

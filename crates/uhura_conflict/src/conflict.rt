@@ -66,7 +66,8 @@ impl Conflict {
         requires together { AreActiveTogether plan.now (places_in pairs.items) }
         ensures stuck { IfOk result (λ c. c.stuck ≡ stuck) }
         ensures pairs { IfOk result (λ c. c.pairs ≡ pairs.items) }
-        ensures literals { IfOk result (λ c. AreLiteralsOf plan.now (places_in pairs.items) c.literals) }
+        ensures literals { IfOk result (λ c.
+            AreLiteralsOf plan.now (places_in pairs.items) c.literals) }
     {
         let literals = literals_of(plan, pairs.as_slice());
         Ok(Conflict {

@@ -13,8 +13,8 @@ ghost use Rattle.uhura_conflict.specs.Literals.{AreLiteralsOf, AreActiveAt, AreA
 
 /// A conflict applies exactly where the requirements at its places are active.
 pub fn conflicts_apply_where_requirements_are_active()
-    ensures { (plan : Lists) (places : List Place) (literals : List (Option ℕ)) (picks : List Pick) →
-        AreLiteralsOf plan places literals →
+    ensures { (plan : Lists) (places : List Place) (literals : List (Option ℕ))
+        (picks : List Pick) → AreLiteralsOf plan places literals →
         AreAllPicked picks literals ↔ AreActiveAt plan places picks }
 {}
 

@@ -65,8 +65,8 @@ impl Store {
         best_in(&self.entries, prefix.entries())
     }
 
-    /// Adds a conflict under a key that has none, and gives it back where there is no memory. It is to exceed the best
-    /// that is known of the branch.
+    /// Adds a conflict under a key that has none, and gives it back where there is no memory. It is to exceed the
+    /// best that is known of the branch.
     pub fn add(&mut self, conflict: Conflict, branch: &Branch) -> Result<usize, Conflict>
         requires valid { IsValid (edges_of self.old.table) conflict }
         requires applies { Applies branch.now conflict }
