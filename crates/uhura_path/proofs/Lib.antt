@@ -1,0 +1,15 @@
+mod Backward
+mod Noting
+mod Putting
+mod Raising
+mod Reaching
+pub mod Steps
+mod Swapping
+mod Trail
+pub mod Turns
+mod Backtrack
+mod Beginning
+pub mod Distances
+mod Ends
+mod Finding
+mod Listwalk
