@@ -9,3 +9,4 @@ pub mod Keeping
 pub mod Untouched
 pub mod Differing
 pub mod Serving
+pub mod Using

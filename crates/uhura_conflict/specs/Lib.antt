@@ -1,4 +1,5 @@
 pub mod Learned
+pub mod Used
 pub mod Literals
 pub mod Gathered
 pub mod Marked

@@ -15,6 +15,7 @@ mod looking;
 mod revising;
 mod store;
 mod trimming;
+mod used;
 mod worth;
 
 pub use bound::Bound;
