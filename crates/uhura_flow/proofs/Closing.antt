@@ -23,14 +23,14 @@ use Rattle.uhura_path.specs.declared.ways.Arc.{Arc}
 use Rattle.uhura_path.specs.declared.ways.Ways.TheVariants.{Firm}
 use Rattle.uhura_path.specs.declared.task.Task.{Task}
 use Rattle.uhura_path.specs.declared.found.Found.{Found}
-use Rattle.uhura_path.specs.Ways.{Arcs, walkable, arc_of, arcs_of, no_arc}
+use Rattle.uhura_path.specs.Ways.{Arcs, walkable, arc_of, arcs_of}
 use Rattle.uhura_path.specs.Walk.{IsWalk, IsPath, arc_at}
 use Rattle.uhura_path.specs.Found.{AreDistances, IsFound}
+use Rattle.uhura_path.proofs.Steps.{there_on_walk}
 use Rattle.uhura_path.proofs.Turns.{IsFirmWalk-walk}
 use Rattle.uhura_flow.specs.Flow.{IsFlowEdge, IsOptimalNet}
 use Rattle.uhura_flow.specs.Placing.{IsPossible, IsStuckWalk}
 use Rattle.uhura_flow.proofs.Ways.{firm_not_below, cost_of, arc_edge}
-use Rattle.uhura_flow.proofs.Trails.{step_of}
 use Rattle.uhura_flow.proofs.Readiness.{few_differ, net_edge_at}
 use Rattle.uhura_flow.proofs.Settling.{written_there, written_elsewhere}
 
@@ -60,9 +60,9 @@ step_edge : (net : NetState) (potentials : ℕ → ℤ) (from : ℕ) (places : L
     (step : ℕ) → step < length places →
     (edge : Edge) × (edges_of net.edges (place_at places step) ≡ Some edge) × ((arc_at (arcs_of (walkable Firm net) potentials) places backward step).from ≡ edge.from)
 step_edge net potentials from places backward to cost path step inside =
-    let at = step_of (arcs_of (walkable Firm net) potentials) from places backward to cost path.walk step inside in
-    let found = firm_arc net potentials (place_at places step) (get_or backward step false) at.arc at.is in
-    (found.0, found.1, ap (λ a. (unwrap_or a no_arc).from) at.is ∙ ap (λ (a : Arc). a.from) found.2)
+    let arcs = arcs_of (walkable Firm net) potentials in
+    let found = firm_arc net potentials (place_at places step) (get_or backward step false) (arc_at arcs places backward step) (there_on_walk arcs from places backward to cost path.walk step inside) in
+    (found.0, found.1, ap (λ (a : Arc). a.from) found.2)
 
 -- so the place isn't on a path to where its edge begins
 firm_apart : (net : NetState) (potentials : ℕ → ℤ) (from : ℕ) (places : List Place) (backward : List Bool) (place cost : ℕ) (edge : Edge) →

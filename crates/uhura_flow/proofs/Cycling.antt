@@ -6,7 +6,6 @@ use Rattle.std.proofs.lemmas.Bool.{cases_eq, ne_eqb}
 use Rattle.std.proofs.lemmas.List.{get_or-set_same, get_or-set_other}
 use Rattle.std.proofs.lemmas.List.Elements.{All-cons}
 use Rattle.std.proofs.lemmas.Map.Keys.{IsDistinct-cons}
-use Rattle.uhura_net.specs.declared.edge.TheConstants.{FIRM_CAPACITY}
 use Rattle.uhura_net.specs.declared.edge.Edge.{Edge}
 use Rattle.uhura_net.specs.declared.place.TheConstants.{PLACES}
 use Rattle.uhura_net.specs.declared.place.Place.{Place}
@@ -15,11 +14,11 @@ use Rattle.uhura_net.specs.Walk.{Leads, IsClosedWalk}
 use Rattle.uhura_net.specs.Circulation.{Units, edges_of, units_of}
 use Rattle.uhura_net.specs.Residual.{residual_edge, residual_walk, is_same_place, place_at, IsMoved, IsPushed}
 use Rattle.uhura_net.specs.Optimal.{slack_of, IsOptimalAt}
-use Rattle.uhura_net.specs.Net.{NetState, IsNetEdge, IsNet, MayBeSet, net_walk, IsNetCycle}
+use Rattle.uhura_net.specs.Net.{NetState, IsNet, net_walk, IsNetCycle}
 use Rattle.uhura_net.proofs.Pushing.{none_cons}
 use Rattle.uhura_net.proofs.Cycles.{is_among}
 use Rattle.uhura_flow.specs.declared.through.Through.{Through}
-use Rattle.uhura_flow.specs.Turns.{with_capacity, edges_held, IsHeld, walk_start, walk_end, room_for, IsReady, IsSent}
+use Rattle.uhura_flow.specs.Turns.{with_capacity, edges_held, walk_start, walk_end, room_for, IsReady, IsSent}
 
 -- what is set twice is set as the last time
 pub set_twice : {X : Type 0} (xs : List X) (at : ℕ) (x y : X) → set (set xs at x) at y ≡ set xs at y
@@ -67,18 +66,6 @@ room_forth : (back : Bool) (units amount : ℕ) → back ≡ false → room_for 
 room_forth true units amount forth = absurd (let no : ⊥ = cc in no)
 room_forth false units amount forth = refl
 
-pub room_small : (back : Bool) (units amount : ℕ) → units ≤ FIRM_CAPACITY → (back ≡ false → units + amount ≤ FIRM_CAPACITY) → room_for back units amount ≤ FIRM_CAPACITY
-room_small true units amount few forth = few
-room_small false units amount few forth = forth refl
-
-pub room_enough : (back : Bool) (units amount : ℕ) → units ≤ room_for back units amount
-room_enough true units amount = omega arith
-room_enough false units amount = omega arith
-
--- the net where it is held
-pub net_held : NetState → ℕ → Edge → ℕ → NetState
-net_held net place edge capacity = record net { edges = edges_held net place edge capacity }
-
 -- the edges of the walk stay
 elsewhere_same : (net : NetState) (place other : ℕ) (edge : Edge) (capacity : ℕ) → other ≢ place →
     edge_at (edges_of (edges_held net place edge capacity)) other ≡ edge_at (edges_of net.edges) other
@@ -111,27 +98,6 @@ ready_cycle net potentials through places backward amount ready =
           (subst first (sym here) (left_by (with_capacity through.edge room) units amount through.back ready.back (room_forth through.back units amount)))
           (subst rest (sym walk) ready.left);
     }
-
--- a place that is held may be given another capacity for its units
-pub may_be_held : (net : NetState) (potentials : List ℤ) (place : ℕ) (edge : Edge) (capacity : ℕ) → IsHeld net potentials place edge → units_of net.units place ≤ capacity →
-    MayBeSet net place (Some (with_capacity edge capacity))
-may_be_held net potentials place edge capacity held enough =
-    let there : edge_at (edges_of net.edges) place ≡ with_capacity edge (units_of net.units place) = ap (λ e. unwrap_or e no_edge) held.there in
-    inr (record {
-      from = sym (ap (λ (e : Edge). e.from) there);
-      to = sym (ap (λ (e : Edge). e.to) there);
-      room = enough;
-    })
-
-pub IsNetEdge-capacity : (edge : Edge) (capacity : ℕ) → IsNetEdge edge → capacity ≤ FIRM_CAPACITY → IsNetEdge (with_capacity edge capacity)
-IsNetEdge-capacity edge capacity sound few = record {
-  from = sound.from;
-  to = sound.to;
-  apart = sound.apart;
-  least = sound.least;
-  most = sound.most;
-  capacity = few;
-}
 
 -- an edge without slack is optimal whatever it carries
 tight_optimal : (edge : Edge) (units : ℕ) (potentials : ℕ → ℤ) → slack_of potentials edge ≡ pos 0 → IsOptimalAt edge units potentials

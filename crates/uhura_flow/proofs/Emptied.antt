@@ -8,15 +8,13 @@ use Rattle.uhura_net.specs.Edges.{time_at}
 use Rattle.uhura_net.specs.Circulation.{edges_of, units_of}
 use Rattle.uhura_net.specs.Net.{NetState}
 use Rattle.uhura_path.specs.declared.ways.TheConstants.{MOST_COST}
-use Rattle.uhura_path.specs.declared.task.TheConstants.{NO_CAP}
-use Rattle.uhura_path.specs.Ways.{ArePotentials}
 use Rattle.uhura_flow.specs.Narrowed.{ArePrepared}
 use Rattle.uhura_flow.specs.Turns.{with_capacity, IsHeld, IsTurn}
 use Rattle.uhura_flow.specs.Loops.{above_zero, slack_under, StaysSpare, IsDrained, IsEmptied, IsDrainTurn, reserve_of, IsBoundOf}
 use Rattle.uhura_flow.proofs.Drawing.{slack_drawn-spare}
 use Rattle.uhura_flow.proofs.Cycling.{set_twice}
 use Rattle.uhura_flow.proofs.Readiness.{set_there}
-use Rattle.uhura_flow.proofs.Looping.{narrow_at, none_above_zero, above_zero-pos, above_few}
+use Rattle.uhura_flow.proofs.Looping.{narrow_at, none_above_zero, above_zero-pos}
 
 -- a slack under a bound stays on its side where the potentials are prepared
 pub StaysSpare-prepared : (net : NetState) (before after : List ℤ) (place : ℕ) (edge : Edge) (target : Option ℤ) → IsHeld net before place edge → IfSome target IsBoundOf →
@@ -124,8 +122,3 @@ pub IsEmptied-none : (net : NetState) (potentials : List ℤ) (place : ℕ) (edg
     IsEmptied net potentials place edge target least
 IsEmptied-none net potentials place edge None cap least is none = absurd (omega (arith, is, none))
 IsEmptied-none net potentials place edge (Some limit) cap least is none = inr (none_above_zero (slack_under potentials edge limit) (sym is ∙ none))
-
--- the reserve is no more than a search may have as its cap
-pub reserve_few : (potentials : List ℤ) (edge : Edge) (limit : ℤ) → ArePotentials potentials → IsBoundOf limit → above_zero (slack_under potentials edge limit) ≤ NO_CAP
-reserve_few potentials edge limit low bound =
-    above_few (slack_under potentials edge limit) (omega (arith, ints, bound.most, low.least edge.from, low.most edge.from, low.least edge.to, low.most edge.to))

@@ -89,14 +89,6 @@ slack_read values highest touched edge from to result kept sound from_is to_is i
       most = subst (λ (z : ℤ). z ≤ℤ pos 1000010002000000000) (sym all.0) all.2;
     }
 
--- potentials that are low enough for a search
-pub ArePotentials-low : (potentials : List ℤ) (highest : ℕ) (touched : List Bool) → IsKeptBelow potentials highest touched → highest ≤ MOST_POTENTIAL → ArePotentials potentials
-ArePotentials-low potentials highest touched kept low = record {
-  nodes = kept.nodes;
-  least = λ node. omega (arith, ints, (kept.within node).0);
-  most = λ node. omega (arith, ints, (kept.within node).1, low);
-}
-
 pub ArePotentials-narrowed : (edges : Edges) (before after : List ℤ) → AreNarrowed edges before after → ArePotentials after
 ArePotentials-narrowed edges before after narrowed =
     let low : wide * touched_nodes edges ≤ MOST_POTENTIAL = omega (arith, few_touched edges) in

@@ -1,7 +1,6 @@
 -- What turn after turn of units through a place leaves.
-use Rattle.std.proofs.Common.{◌≡◌, ◌≢◌, ℕ, ◌-◌, ◌≤◌, Bool, true, false, cond, ℤ, pos, negsuc, ◌≤ℤ◌, ◌<ℤ◌, List, set, Option, None, Some, IfSome, unwrap_or, refl, sym, ap, subst, ◌∙◌, inl, inr, arith}
+use Rattle.std.proofs.Common.{◌≡◌, ◌≢◌, ℕ, ◌-◌, ◌≤◌, Bool, true, false, cond, ℤ, pos, negsuc, ◌≤ℤ◌, List, set, Option, None, Some, IfSome, unwrap_or, refl, sym, ap, subst, ◌∙◌, inl, inr, arith}
 use Rattle.std.specs.Prelude.{neg_ℤ}
-use Rattle.std.specs.Int.RustNames.{unsigned_abs}
 use Rattle.std.proofs.lemmas.Int.{ints}
 use Rattle.uhura_net.specs.declared.edge.Edge.{Edge}
 use Rattle.uhura_net.specs.declared.place.TheConstants.{PLACES}
@@ -23,23 +22,6 @@ use Rattle.uhura_flow.proofs.Cycling.{set_twice}
 use Rattle.uhura_flow.proofs.Trails.{inside_where_there}
 use Rattle.uhura_flow.proofs.Readiness.{set_there}
 
--- numbers below 0 and above it
-pub below_is : (z : ℤ) → z <ℤ pos 0 → unsigned_abs z ≡ below_zero z
-below_is (pos n) less = absurd (omega (arith, ints, less))
-below_is (negsuc n) less = refl
-
-pub below_none : (z : ℤ) → pos 0 ≤ℤ z → below_zero z ≡ 0
-below_none (pos n) more = refl
-below_none (negsuc n) more = absurd (omega (arith, ints, more))
-
-pub above_is : (z : ℤ) → pos 0 <ℤ z → unsigned_abs z ≡ above_zero z
-above_is (pos n) more = refl
-above_is (negsuc n) more = absurd (omega (arith, ints, more))
-
-pub above_none : (z : ℤ) → z ≤ℤ pos 0 → above_zero z ≡ 0
-above_none (pos n) less = omega (arith, ints, less)
-above_none (negsuc n) less = refl
-
 none_below_zero : (z : ℤ) → below_zero z ≡ 0 → pos 0 ≤ℤ z
 none_below_zero (pos n) none = omega (arith, ints)
 none_below_zero (negsuc n) none = absurd (omega (arith, none))
@@ -55,10 +37,6 @@ none_above_zero (negsuc n) none = omega (arith, ints)
 pub above_zero-pos : (z : ℤ) → pos 0 ≤ℤ z → pos (above_zero z) ≡ z
 above_zero-pos (pos n) more = refl
 above_zero-pos (negsuc n) more = absurd (omega (arith, ints, more))
-
-pub above_few : (z : ℤ) → z ≤ℤ pos 30000000000000 → above_zero z ≤ NO_CAP
-above_few (pos n) less = omega (arith, ints, less)
-above_few (negsuc n) less = omega arith
 
 below_few : (z : ℤ) → neg_ℤ (pos 30000000000000) ≤ℤ z → below_zero z ≤ NO_CAP
 below_few (pos n) more = omega arith

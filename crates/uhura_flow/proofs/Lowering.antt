@@ -31,18 +31,3 @@ IsEachDone-set change before after count z inside is so_far = record {
       ];
   rest = λ at beyond. get_or-set_other after count at z (pos 0) (λ same. let no : ⊥ = omega arith in no) ∙ so_far.rest at (omega arith);
 }
-
--- or stays, where it is as it should be
-pub IsEachDone-kept : (change : ℕ → ℤ → ℤ) (before after : List ℤ) (count : ℕ) → time_at after count ≡ change count (time_at before count) →
-    IsEachDone change before after count → IsEachDone change before after (count + 1)
-IsEachDone-kept change before after count is so_far = record {
-  nodes = so_far.nodes;
-  done = λ at below.
-      elim (cases_lt at count) [
-        | inl earlier ↦ so_far.done at earlier
-        | inr later ↦
-            let here : at ≡ count = omega arith in
-            ap (λ a. time_at after a) here ∙ is ∙ ap (λ a. change a (time_at before a)) (sym here)
-      ];
-  rest = λ at beyond. so_far.rest at (omega arith);
-}

@@ -18,17 +18,18 @@ use Rattle.uhura_net.proofs.Sums.{sum_below-le, sum_below-most, sum_below-exchan
 use Rattle.uhura_path.specs.declared.ways.TheConstants.{MOST_COST}
 use Rattle.uhura_path.specs.declared.ways.Arc.{Arc}
 use Rattle.uhura_path.specs.declared.ways.Ways.TheVariants.{Residual}
-use Rattle.uhura_path.specs.Ways.{Arcs, walkable, residual_option, ArePotentials, arc_of, arcs_of, no_arc}
+use Rattle.uhura_path.specs.Ways.{Arcs, walkable, residual_option, ArePotentials, arc_of, arcs_of}
 use Rattle.uhura_path.specs.Walk.{IsPath, IsLeastRoom, arc_at}
 use Rattle.uhura_path.specs.declared.task.Task.{Task}
 use Rattle.uhura_path.specs.declared.found.Path.{Path}
 use Rattle.uhura_path.specs.declared.found.Found.{Found}
 use Rattle.uhura_path.specs.Found.{AreDistances, IsLifted, IsFound, IsPathOf}
+use Rattle.uhura_path.proofs.Turns.{NoneIsBelow-optimal, IsOptimal-none_below, NoneIsBelow-lifted, IsResidualWalk-walk, room_on_walk, full_place_apart, drained_place_apart}
 use Rattle.uhura_flow.specs.declared.through.Through.{Through}
 use Rattle.uhura_flow.specs.Turns.{with_capacity, IsHeld, walk_start, walk_end, IsReady, IsSent, IsShifted, IsTurn}
 use Rattle.uhura_flow.proofs.Emptying.{never_far}
-use Rattle.uhura_flow.proofs.Ways.{walked, walks, none_below, optimal_from, cost_of, arc_edge, none_below-lifted}
-use Rattle.uhura_flow.proofs.Trails.{tight_along, IsTrail-walk, room_along, step_of, full_apart, drained_apart}
+use Rattle.uhura_flow.proofs.Ways.{walks, cost_of}
+use Rattle.uhura_flow.proofs.Trails.{tight_along, step_of}
 
 -- one at most of numbers that differ is a given one
 at_most_one : (count : ℕ) (f : ℕ → ℕ) (v : ℕ) → ((i j : ℕ) → i < j → j < count → f i ≢ f j) → sum_below count (λ i. cond (eqb (f i) v) 1 0) ≤ 1
@@ -85,12 +86,10 @@ few_steps : (net : NetState) (potentials : ℕ → ℤ) (from : ℕ) (places : L
 few_steps net potentials from places backward to cost sound path =
     few_differ (length places) NODES (λ step. (arc_at (arcs_of (walkable Residual net) potentials) places backward step).from) path.once
     (λ step inside.
-    let at = step_of (arcs_of (walkable Residual net) potentials) from places backward to cost path.walk step inside in
-    let found = arc_edge potentials (walkable Residual net (place_at places step) (get_or backward step false)) at.arc at.is in
-    let there = walked (edges_of net.edges (place_at places step)) (units_of net.units (place_at places step)) (get_or backward step false) found.0 found.1 in
-    let edge = net_edge_at net (place_at places step) (edge_at (edges_of net.edges) (place_at places step)) sound there.there in
-    let starts : found.0.from < NODES = subst (λ (e : Edge). e.from < NODES) (sym there.is) (start_inside (edge_at (edges_of net.edges) (place_at places step)) (units_of net.units (place_at places step)) (get_or backward step false) edge) in
-    omega (arith, starts, ap (λ a. (unwrap_or a no_arc).from) at.is, ap (λ (a : Arc). a.from) found.2))
+    let at = step_of net potentials from places backward to cost path.walk step inside in
+    let edge = net_edge_at net (place_at places step) (edge_at (edges_of net.edges) (place_at places step)) sound at.walked.there in
+    let starts : at.edge.from < NODES = subst (λ (e : Edge). e.from < NODES) (sym at.walked.is) (start_inside (edge_at (edges_of net.edges) (place_at places step)) (units_of net.units (place_at places step)) (get_or backward step false) edge) in
+    omega (arith, starts, ap (λ (a : Arc). a.from) at.arc))
 
 -- the ends of the place move by the cost
 shifted_by : (back : Bool) (edge : Edge) (before after : List ℤ) (cost : ℕ) (distance : ℕ → ℕ) → IsLifted cost distance (time_at before) (time_at after) →
@@ -105,15 +104,15 @@ side_by true edge before after cost cap shifted near forth side = omega (arith, 
 side_by false edge before after cost cap shifted near forth side = omega (arith, ints, shifted, near, forth refl)
 
 -- the place isn't on the path
-apart_by : (net : NetState) (potentials : ℕ → ℤ) (back : Bool) (places : List Place) (backward : List Bool) (cost cap place : ℕ) (edge : Edge) →
+apart_by : (net : NetState) (potentials : ℕ → ℤ) (back : Bool) (places : List Place) (backward : List Bool) (cost cap place : ℕ) (edge : Edge) → edge.from ≢ edge.to →
     edges_of net.edges place ≡ Some (with_capacity edge (units_of net.units place)) →
     IsPath (arcs_of (walkable Residual net) potentials) (walk_start edge back) places backward (walk_end edge back) cost → cost < cap →
     (back ≡ false → pos cap ≡ neg_ℤ (slack_of potentials edge)) → (step : ℕ) → step < length places → place_at places step ≢ place
-apart_by net potentials true places backward cost cap place edge there path less forth =
-    drained_apart net potentials edge.from places backward edge.to cost place (with_capacity edge (units_of net.units place)) there refl refl path
-apart_by net potentials false places backward cost cap place edge there path less forth =
-    full_apart net potentials edge.to places backward edge.from cost place (with_capacity edge (units_of net.units place)) there refl path.walk
-    (omega (arith, ints, less, forth refl))
+apart_by net potentials true places backward cost cap place edge ends there path less forth =
+    drained_place_apart net potentials places backward cost place (with_capacity edge (units_of net.units place)) there refl ends path
+apart_by net potentials false places backward cost cap place edge ends there path less forth =
+    let below : slack_of potentials edge ≡ neg_ℤ (pos cap) = omega (arith, ints, forth refl) in
+    full_place_apart net potentials edge.to places backward edge.from cost cap place (with_capacity edge (units_of net.units place)) there refl below path.walk less
 
 -- a place with units that stand at its capacity has no slack above 0
 pub held_side : (net : NetState) (potentials : List ℤ) (place : ℕ) (edge : Edge) → IsHeld net potentials place edge → 1 ≤ units_of net.units place → slack_of (time_at potentials) edge ≤ℤ pos 0
@@ -129,8 +128,8 @@ held_lifted net before after place edge root cost distance held distances lifted
   inside = held.inside;
   of_net = held.of_net;
   there = held.there;
-  optimal = optimal_from net (time_at after) held.sound
-      (none_below-lifted (walkable Residual net) (time_at before) (time_at after) root cost distance (none_below net (time_at before) held.optimal) distances lifted);
+  optimal = IsOptimal-none_below net (time_at after) held.sound
+      (NoneIsBelow-lifted (walkable Residual net) (time_at before) (time_at after) root cost distance (NoneIsBelow-optimal net (time_at before) held.optimal) distances lifted);
 }
 
 -- what is asked of a turn
@@ -155,7 +154,9 @@ pub ready_found : (net : NetState) (before after : List ℤ) (through : Through)
     IsLeastRoom (arcs_of (walkable Residual net) (time_at before)) places backward least → amount ≤ least → amount ≤ most → IsReady net after through places backward amount
 ready_found net before after through cap most cost distance places backward least amount asked answered less path room few_least few_most =
     let edge : Edge = through.edge in
-    let trail = IsTrail-walk net (time_at before) (walk_start edge through.back) places backward (walk_end edge through.back) cost asked.held.sound path.walk in
+    let none = NoneIsBelow-optimal net (time_at before) asked.held.optimal in
+    let trail = IsResidualWalk-walk net (time_at before) (walk_start edge through.back) places backward (walk_end edge through.back) cost asked.held.sound none path.walk in
+    let least_left = room_on_walk net (time_at before) (walk_start edge through.back) places backward (walk_end edge through.back) cost least path.walk room in
     let shifted = shifted_by through.back edge before after cost distance answered.lifted answered.distances.here answered.goal in
     record {
       held = held_lifted net before after through.place.0 edge (walk_end edge through.back) cost distance asked.held answered.distances answered.lifted;
@@ -163,12 +164,11 @@ ready_found net before after through cap most cost distance places backward leas
       steps = trail.steps;
       inside = trail.inside;
       once = path.places_once;
-      apart = apart_by net (time_at before) through.back places backward cost cap through.place.0 edge asked.held.there path less asked.forth;
+      apart = apart_by net (time_at before) through.back places backward cost cap through.place.0 edge asked.held.of_net.apart asked.held.there path less asked.forth;
       leads = trail.leads;
-      left = room_along net (time_at before) (walk_start edge through.back) places backward (walk_end edge through.back) cost amount path.walk
-          (λ step inside. omega (arith, few_least, room.below step inside));
-      tight = tight_along net (time_at before) (time_at after) (walk_start edge through.back) places backward (walk_end edge through.back) cost cost cost distance
-          (none_below net (time_at before) asked.held.optimal) answered.distances answered.lifted path.walk answered.goal;
+      left = λ step d inside. omega (arith, few_least, least_left step d inside);
+      tight = tight_along net (time_at before) (time_at after) (walk_start edge through.back) places backward (walk_end edge through.back) cost distance none answered.distances answered.lifted path
+          answered.goal;
       side = side_by through.back edge before after cost cap shifted (omega (arith, less)) asked.forth
           (λ back. held_side net before through.place.0 edge asked.held (omega (arith, asked.some, asked.back back)));
       back = λ back. omega (arith, few_most, asked.back back);
@@ -196,7 +196,7 @@ pub found_near : (net : NetState) (before after : List ℤ) (through : Through) 
 found_near net before after through cap most cost distance asked answered back =
     let place : ℕ = through.place.0 in
     let edges : Edges = edges_of net.edges in
-    let none = none_below net (time_at before) asked.held.optimal in
+    let none = NoneIsBelow-optimal net (time_at before) asked.held.optimal in
     let here : edge_at edges place ≡ with_capacity through.edge (units_of net.units place) = ap (λ e. unwrap_or e no_edge) asked.held.there in
     let near : (other : ℕ) → other < PLACES → 1 ≤ units_of net.units other → distance (edge_at edges other).to ≤ distance (edge_at edges other).from + MOST_COST = λ other inside some.
     let within = asked.held.sound.circulates.within other in

@@ -1,5 +1,5 @@
 -- Narrowing one gap after the other.
-use Rattle.std.proofs.Common.{◌≡◌, ℕ, ◌+◌, ◌*◌, ◌^◌, ◌<◌, ◌≤◌, Bool, true, false, cond, ℤ, pos, ◌+ℤ◌, ◌-ℤ◌, ◌≤ℤ◌, ◌<ℤ◌, List, length, set, Option, None, Some, refl, sym, ap, subst, ◌∙◌, inl, inr, arith}
+use Rattle.std.proofs.Common.{◌≡◌, ℕ, ◌+◌, ◌*◌, ◌^◌, ◌<◌, ◌≤◌, Bool, true, false, cond, ℤ, pos, ◌+ℤ◌, ◌-ℤ◌, ◌≤ℤ◌, ◌<ℤ◌, List, length, set, refl, ap, ◌∙◌, inl, inr, arith}
 use Rattle.std.proofs.lemmas.Int.{ints, by_lt_z}
 use Rattle.std.proofs.lemmas.Bool.{cases_lt}
 use Rattle.std.proofs.lemmas.List.{get_or_past}
@@ -11,75 +11,10 @@ use Rattle.uhura_net.specs.Edges.{Edges, time_at}
 use Rattle.uhura_net.proofs.Sums.{sum_below-le, sum_below-most}
 use Rattle.uhura_flow.specs.Flow.{AreWithin}
 use Rattle.uhura_flow.specs.Reading.{is_touched, touched_nodes}
-use Rattle.uhura_flow.specs.Narrowed.{wide, IsDrawn, AreDrawn, AreNarrowed, AreMarked, AreCleared, AreNotAbove, IsLeast, IsLeastAbove, IsGapNarrowed, lowered_to, AreLowered}
+use Rattle.uhura_flow.specs.Narrowed.{wide, IsDrawn, AreDrawn, AreNarrowed, AreMarked, AreCleared, IsLeastAbove, IsGapNarrowed, lowered_to, AreLowered}
 use Rattle.uhura_flow.proofs.Gaps.{same_sum}
 use Rattle.uhura_flow.proofs.Lowering.{IsEachDone, IsEachDone-none, IsEachDone-set}
 use Rattle.uhura_flow.proofs.Drawing.{AreDrawn-trans, AreDrawn-same}
-
--- one more potential: at most at the level, the first above it, the least of those, or none of that
-pub IsLeast-not_above : (count : ℕ) (level : ℤ) (potentials : List ℤ) (least : Option ℤ) → time_at potentials count ≤ℤ level →
-    IsLeast count level potentials least → IsLeast (count + 1) level potentials least
-IsLeast-not_above count level potentials None below is = λ node inside.
-    elim (cases_lt node count) [
-      | inl earlier ↦ is node earlier
-      | inr later ↦ let here : node ≡ count = omega arith in subst (λ n. time_at potentials n ≤ℤ level) (sym here) below
-    ]
-IsLeast-not_above count level potentials (Some least) below is = record {
-  above = is.above;
-  between = λ node inside above.
-      elim (cases_lt node count) [
-        | inl earlier ↦ is.between node earlier above
-        | inr later ↦
-            let here : node ≡ count = omega arith in
-            let under : time_at potentials node ≤ℤ level = subst (λ n. time_at potentials n ≤ℤ level) (sym here) below in
-            absurd (omega (arith, ints, under, above))
-      ];
-  node = is.node;
-  inside = omega (arith, is.inside);
-  is = is.is;
-}
-
-pub IsLeast-first : (count : ℕ) (level : ℤ) (potentials : List ℤ) (z : ℤ) → time_at potentials count ≡ z → level <ℤ z →
-    AreNotAbove count level potentials → IsLeastAbove (count + 1) level potentials z
-IsLeast-first count level potentials z here above is = record {
-  above = above;
-  between = λ node inside higher.
-      elim (cases_lt node count) [
-        | inl earlier ↦ absurd (omega (arith, ints, is node earlier, higher))
-        | inr later ↦ let last : node ≡ count = omega arith in omega (arith, ints, here, ap (λ n. time_at potentials n) last)
-      ];
-  node = count;
-  inside = omega arith;
-  is = here;
-}
-
-pub IsLeast-less : (count : ℕ) (level : ℤ) (potentials : List ℤ) (z other : ℤ) → time_at potentials count ≡ z → level <ℤ z → z <ℤ other →
-    IsLeastAbove count level potentials other → IsLeastAbove (count + 1) level potentials z
-IsLeast-less count level potentials z other here above less is = record {
-  above = above;
-  between = λ node inside higher.
-      elim (cases_lt node count) [
-        | inl earlier ↦ omega (arith, ints, is.between node earlier higher)
-        | inr later ↦ let last : node ≡ count = omega arith in omega (arith, ints, here, ap (λ n. time_at potentials n) last)
-      ];
-  node = count;
-  inside = omega arith;
-  is = here;
-}
-
-pub IsLeast-more : (count : ℕ) (level : ℤ) (potentials : List ℤ) (z other : ℤ) → time_at potentials count ≡ z → other ≤ℤ z →
-    IsLeastAbove count level potentials other → IsLeastAbove (count + 1) level potentials other
-IsLeast-more count level potentials z other here more is = record {
-  above = is.above;
-  between = λ node inside higher.
-      elim (cases_lt node count) [
-        | inl earlier ↦ is.between node earlier higher
-        | inr later ↦ let last : node ≡ count = omega arith in omega (arith, ints, here, ap (λ n. time_at potentials n) last)
-      ];
-  node = is.node;
-  inside = omega (arith, is.inside);
-  is = is.is;
-}
 
 -- what a potential that is lowered becomes
 lowered_to-above : (level by z : ℤ) → level <ℤ z → lowered_to level by z ≡ z -ℤ by

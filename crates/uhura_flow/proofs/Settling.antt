@@ -13,7 +13,7 @@ use Rattle.uhura_net.specs.Table.{IsEdgeFor}
 use Rattle.uhura_net.specs.Edges.{no_edge, edge_at, time_at, AreKept}
 use Rattle.uhura_net.specs.Circulation.{edges_of, units_of}
 use Rattle.uhura_net.specs.Optimal.{slack_of, below_zero, IsOptimalAt, IsOptimal, firm_edges}
-use Rattle.uhura_net.specs.Net.{NetState, IsNetEdge, IsNet, MayBeSet}
+use Rattle.uhura_net.specs.Net.{NetState, IsNetEdge, IsNet}
 use Rattle.uhura_net.proofs.Firm.{firm_are_kept}
 use Rattle.uhura_net.proofs.Outweighing.{firm_outweigh}
 use Rattle.uhura_flow.specs.Flow.{IsFlowEdge, AreFlowEdges, IsOptimalNet}
@@ -255,19 +255,6 @@ held_new old net potentials place edge sound inside empty of_net is net_sound =
     held_as old net potentials place edge sound inside of_net
     (record { used = λ some. absurd (omega (arith, some, none)); spare = λ spared. absurd (omega (arith, spared)) }) (subst P (sym none) is) net_sound
 
--- an edge at a place may be held with its units as its capacity
-pub may_hold : (net : NetState) (place : ℕ) (edge : Edge) (capacity : ℕ) → edges_of net.edges place ≡ Some edge → units_of net.units place ≤ capacity → MayBeSet net place (Some (with_capacity edge capacity))
-may_hold net place edge capacity there enough =
-    let here : edge_at (edges_of net.edges) place ≡ edge = ap (λ e. unwrap_or e no_edge) there in
-    inr (record {
-      from = sym (ap (λ (e : Edge). e.from) here);
-      to = sym (ap (λ (e : Edge). e.to) here);
-      room = enough;
-    })
-
-pub others_flow : (net : NetState) (potentials : List ℤ) (place : ℕ) → IsOptimalNet net potentials → AreFlowEdgesBut place net.edges
-others_flow net potentials place sound other apart = sound.placed other
-
 -- the firm edges without that of a place are kept by what keeps them
 firm_without : (edges : List (Option Edge)) (place : ℕ) (times : ℕ → ℤ) → place < length edges → AreKept (firm_edges (edges_of edges)) times →
     AreKept (firm_edges (edges_of (set edges place None))) times
@@ -333,17 +320,6 @@ flow_rebound net potentials place edge bound sound there of_bound =
       capacity = flow.capacity;
     }
 
-pub flow_there : (net : NetState) (potentials : List ℤ) (place : ℕ) (edge : Edge) → IsOptimalNet net potentials → edges_of net.edges place ≡ Some edge → IsFlowEdge place edge
-flow_there net potentials place edge sound there = subst (λ e. IfSome e (IsFlowEdge place)) there (sound.placed place)
-
--- a place whose edge gets a bound that the potentials pass is held under it
-pub held_under : (old net : NetState) (potentials : List ℤ) (place : ℕ) (edge : Edge) (bound : ℤ) → IsOptimalNet old potentials → place < PLACES → edges_of old.edges place ≡ Some edge → IsBoundOf bound →
-    slack_under potentials edge bound ≤ℤ pos 0 → net ≡ record old { edges = edges_held old place (with_bound edge bound) (units_of old.units place) } → IsNet net →
-    IsHeld net potentials place (with_bound edge bound)
-held_under old net potentials place edge bound sound inside there of_bound passed is net_sound =
-    held_as old net potentials place (with_bound edge bound) sound inside (flow_rebound old potentials place edge bound sound there of_bound).of_net
-    (record { used = λ some. passed; spare = λ spared. absurd (omega (arith, spared)) }) is net_sound
-
 -- units that a place has fit its capacity
 pub units_fit : (net : NetState) (place : ℕ) (edge : Edge) → IsNet net → edges_of net.edges place ≡ Some edge → units_of net.units place ≤ edge.capacity
 units_fit net place edge sound there = omega (arith, sound.circulates.within place, ap (λ e. (unwrap_or e no_edge).capacity) there)
@@ -373,22 +349,6 @@ slack_alike potentials old edge alike = ap (λ (e : Edge). slack_of (time_at pot
 pub passed_by : (z : ℤ) (n : ℕ) → n ≡ below_zero z → n ≢ 0 → z ≤ℤ pos 0
 passed_by (pos m) n is some = absurd (some is)
 passed_by (negsuc m) n is some = omega (arith, ints)
-
--- an edge with the bound that it has fits its place's units
-pub room_alike : (net : NetState) (potentials : List ℤ) (place : ℕ) (old edge : Edge) → IsOptimalNet net potentials → edges_of net.edges place ≡ Some old → edge ≡ with_bound old edge.bound →
-    units_of net.units place ≤ edge.capacity
-room_alike net potentials place old edge sound there alike = omega (arith, units_fit net place old sound.sound there, ap (λ (e : Edge). e.capacity) alike)
-
-pub may_be_alike : (net : NetState) (place : ℕ) (old edge : Edge) (capacity : ℕ) → edges_of net.edges place ≡ Some old → edge ≡ with_bound old edge.bound → units_of net.units place ≤ capacity →
-    MayBeSet net place (Some (with_capacity edge capacity))
-may_be_alike net place old edge capacity there alike enough =
-    subst (λ (e : Edge). MayBeSet net place (Some (with_capacity e capacity))) (sym alike)
-    (let here : edge_at (edges_of net.edges) place ≡ old = ap (λ e. unwrap_or e no_edge) there in
-    inr (record {
-      from = sym (ap (λ (e : Edge). e.from) here);
-      to = sym (ap (λ (e : Edge). e.to) here);
-      room = enough;
-    }))
 
 -- the same where the edge is known to have another capacity alone
 pub flow_priced : (net : NetState) (potentials : List ℤ) (place : ℕ) (old edge : Edge) → IsOptimalNet net potentials → edges_of net.edges place ≡ Some old → is_loose place ≡ true →

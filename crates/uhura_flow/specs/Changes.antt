@@ -27,7 +27,8 @@ repriced flow place capacity = record (edge_at (flow_edges flow) place) { capaci
 
 -- the edges have no closed walk of edges that aren't loose whose bounds sum below 0
 abbrev pub HasNoFirmCycle : List (Option Edge) → Type 0
-HasNoFirmCycle edges = (places : List Place) → IsNegativeWalk (firm_edges (edges_of edges)) places → ⊥
+HasNoFirmCycle edges =
+    (places : List Place) → IsNegativeWalk (firm_edges (edges_of edges)) places → ⊥
 
 -- The place has the edge, or none, and all others have theirs still. There were at most as many pushes as the units
 -- of the place changed by.

@@ -22,7 +22,8 @@ abbrev pub slack_under : List ℤ → Edge → ℤ → ℤ
 slack_under potentials edge bound = slack_of (time_at potentials) (with_bound edge bound)
 
 -- units were added at the place, up to a number, with at most one push for each
-pub record IsFilled (old new : NetState) (after : List ℤ) (place : ℕ) (edge : Edge) (most : ℕ) : Type 0 where
+pub record IsFilled (old new : NetState) (after : List ℤ) (place : ℕ) (edge : Edge) (most : ℕ) :
+    Type 0 where
   pub held : IsHeld new after place edge
   pub edges : new.edges ≡ edges_held old place edge (units_of new.units place)
   pub up : units_of old.units place ≤ units_of new.units place
@@ -47,8 +48,8 @@ StaysSpare before after edge (Some bound) =
     pos 0 ≤ℤ slack_under before edge bound → pos 0 ≤ℤ slack_under after edge bound
 
 -- units were taken from the place, down to a number, with at most one push for each
-pub record IsDrained (old : NetState) (before : List ℤ) (new : NetState) (after : List ℤ) (place : ℕ) (edge : Edge)
-    (target : Option ℤ) (least : ℕ) : Type 0 where
+pub record IsDrained (old : NetState) (before : List ℤ) (new : NetState) (after : List ℤ)
+    (place : ℕ) (edge : Edge) (target : Option ℤ) (least : ℕ) : Type 0 where
   pub held : IsHeld new after place edge
   pub edges : new.edges ≡ edges_held old place edge (units_of new.units place)
   pub down : units_of new.units place ≤ units_of old.units place
@@ -65,8 +66,10 @@ IsEmptied net potentials place edge (Some bound) least =
 
 -- whether a turn took units, or there is no more to do
 abbrev pub IsDrainTurn : NetState → NetState → List ℤ → ℕ → Edge → Option ℤ → ℕ → Bool → Type 0
-IsDrainTurn old new after place edge target least true = units_of new.units place < units_of old.units place
-IsDrainTurn old new after place edge target least false = IsEmptied new after place edge target least
+IsDrainTurn old new after place edge target least true =
+    units_of new.units place < units_of old.units place
+IsDrainTurn old new after place edge target least false =
+    IsEmptied new after place edge target least
 
 -- how far a path may be for units to be taken: beyond every path, or as the slack under the bound is above 0
 abbrev pub reserve_of : List ℤ → Edge → Option ℤ → ℕ

@@ -19,9 +19,10 @@ AreFlowEdgesBut but edges = (place : ℕ) → place ≢ but →
 abbrev pub IsPossible : List (Option Edge) → Type 0
 IsPossible edges = (times : ℕ → ℤ) × AreKept (firm_edges (edges_of edges)) times
 
--- The place has the edge, or none, all others have theirs still, and all is optimal again, after at most as many pushes
--- as the units of the place changed by.
-pub record IsPlaced (old new : NetState) (after : List ℤ) (place : ℕ) (edge : Option Edge) : Type 0 where
+-- The place has the edge, or none, all others have theirs still, and all is optimal again, after at most as many
+-- pushes as the units of the place changed by.
+pub record IsPlaced (old new : NetState) (after : List ℤ) (place : ℕ) (edge : Option Edge) :
+    Type 0 where
   pub sound : IsOptimalNet new after
   pub edges : new.edges ≡ slice_set old.edges place edge
   pub more : old.pushes ≤ new.pushes
@@ -29,12 +30,14 @@ pub record IsPlaced (old new : NetState) (after : List ℤ) (place : ℕ) (edge 
       old.pushes + apart_by (units_of old.units place) (units_of new.units place)
 
 -- a closed walk of edges that aren't loose, with one through the place, whose bounds sum below 0
-pub record IsStuckWalk (edges : List (Option Edge)) (place : ℕ) (edge : Edge) (cycle : List Place) : Type 0 where
+pub record IsStuckWalk (edges : List (Option Edge)) (place : ℕ) (edge : Edge)
+    (cycle : List Place) : Type 0 where
   pub walk : IsNegativeWalk (firm_edges (edges_of (slice_set edges place (Some edge)))) cycle
   pub through : Contains cycle (record { 0 = place })
 
 -- whether an edge at the place closes such a walk, of how many steps, which is written; else there is none
-abbrev pub IsStuckFound : List (Option Edge) → ℕ → Edge → List Place → List Place → Option ℕ → Type 0
+abbrev pub IsStuckFound : List (Option Edge) → ℕ → Edge → List Place → List Place → Option ℕ →
+    Type 0
 IsStuckFound edges place edge before after None =
     IsPossible (slice_set edges place (Some edge)) × (after ≡ before)
 IsStuckFound edges place edge before after (Some steps) =

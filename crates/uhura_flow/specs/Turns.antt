@@ -31,8 +31,8 @@ pub record IsHeld (net : NetState) (potentials : List ℤ) (place : ℕ) (edge :
   pub there : edges_of net.edges place ≡ Some (with_capacity edge (units_of net.units place))
   pub optimal : IsOptimal (edges_of net.edges) (units_of net.units) (time_at potentials)
 
--- the node where a walk that closes a cycle with an edge begins, and the one where it ends: units go along the edge or
--- back
+-- the node where a walk that closes a cycle with an edge begins, and the one where it ends: units go along the edge
+-- or back
 abbrev pub walk_start : Edge → Bool → ℕ
 walk_start edge back = if back then edge.from else edge.to
 
@@ -62,7 +62,8 @@ pub record IsReady (net : NetState) (potentials : List ℤ) (through : Through) 
   pub forth : through.back ≡ false → units_of net.units through.place.0 + amount ≤ FIRM_CAPACITY
 
 -- They were sent.
-pub record IsSent (old new : NetState) (potentials : List ℤ) (through : Through) (amount : ℕ) : Type 0 where
+pub record IsSent (old new : NetState) (potentials : List ℤ) (through : Through) (amount : ℕ) :
+    Type 0 where
   pub held : IsHeld new potentials through.place.0 through.edge
   pub edges : new.edges ≡
       edges_held old through.place.0 through.edge (units_of new.units through.place.0)
@@ -95,8 +96,8 @@ IsOutcome old new place back reach cap most true = IsMovedOnce old new place bac
 IsOutcome old new place back reach cap most false = (reach ≡ cap) × (new ≡ old)
 
 -- A turn of units through a place. Where they go back, a path to its end is never far.
-pub record IsTurn (old : NetState) (before : List ℤ) (new : NetState) (after : List ℤ) (through : Through)
-    (cap most : ℕ) (moved : Bool) : Type 0 where
+pub record IsTurn (old : NetState) (before : List ℤ) (new : NetState) (after : List ℤ)
+    (through : Through) (cap most : ℕ) (moved : Bool) : Type 0 where
   pub held : IsHeld new after through.place.0 through.edge
   pub edges : new.edges ≡
       edges_held old through.place.0 through.edge (units_of new.units through.place.0)

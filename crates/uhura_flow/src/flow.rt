@@ -46,7 +46,8 @@ impl Model for Flow {
       cycle = take flow.steps flow.cycle.items;
     } };
 
-    ghost invariant = { λ flow. IsKeptFlow flow.net flow.potentials (vec_len flow.cycle) flow.steps };
+    ghost invariant = { λ flow.
+        IsKeptFlow flow.net flow.potentials (vec_len flow.cycle) flow.steps };
 }
 
 impl Flow {

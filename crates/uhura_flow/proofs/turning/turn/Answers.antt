@@ -4,14 +4,14 @@ use Rattle.uhura_path.specs.declared.ways.Ways.TheVariants.{Residual}
 use Rattle.uhura_path.specs.declared.task.Task.{Task}
 use Rattle.uhura_path.specs.Ways.{walkable, NoneIsBelow, arcs_of}
 use Rattle.uhura_flow.specs.Turns.{walk_start, walk_end}
-use Rattle.uhura_flow.proofs.Ways.{none_below}
+use Rattle.uhura_path.proofs.Turns.{NoneIsBelow-optimal}
 use Rattle.uhura_flow.proofs.Trails.{some_room}
 use Rattle.uhura_flow.proofs.Readiness.{IsAsked, IsAnswered, ready_found, turn_sent, turn_none, found_at, path_of, none_of}
 use Rattle.uhura_flow.proofs.turning.turn.Goals as goal
 
 pub search-found-requires-clause-costs : goal.search-found-requires-clause-costs
 search-found-requires-clause-costs c =
-    subst (λ (l : List ℤ). NoneIsBelow (walkable Residual c.args.net.now) (time_at l)) (sym c.values.ensures.values) (none_below c.args.net.now (time_at c.args.potentials.now) c.requires.held.optimal)
+    subst (λ (l : List ℤ). NoneIsBelow (walkable Residual c.args.net.now) (time_at l)) (sym c.values.ensures.values) (NoneIsBelow-optimal c.args.net.now (time_at c.args.potentials.now) c.requires.held.optimal)
 
 pub send-requires : goal.send-requires
 send-requires c =
