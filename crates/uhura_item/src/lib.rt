@@ -1,0 +1,11 @@
+//! The lines of a document, each by itself: what a line says (`Item`), how it is spelled (`specs/Item.antt`), and how
+//! it is read and written. What may follow what is no matter of this crate.
+#![tactic(auto)]
+
+mod item;
+mod limits;
+mod picks;
+
+pub use item::{EdgeKind, EdgeName, Item};
+pub use limits::{EDGE_UNITS, ENTRY, GREATEST_COST, LATEST, SIDE_UNITS};
+pub use picks::Picks;
