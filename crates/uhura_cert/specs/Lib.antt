@@ -1,1 +1,5 @@
 pub mod ProposalText
+pub mod Order
+pub mod Document
+pub mod Items
+pub mod Text

@@ -1,7 +1,11 @@
-//! Proposals as text: a line each for the cost, the picks, the sides that are loosened or narrowed, and the times
-//! (`specs/ProposalText.antt`). Documents will stand beside them.
+//! Proposals and documents as text: a line each for the cost, the picks, the sides that are loosened or narrowed, and
+//! the times (`specs/ProposalText.antt`); documents are being built (`specs/Document.antt`, `specs/DocumentText.antt`).
 #![tactic(auto)]
 
+mod document;
+mod listed;
 mod proposal;
 
+pub use document::{Document, DocumentRefusal, Leaf, Proposal, Reason, Shared};
+pub use listed::Listed;
 pub use proposal::put_proposal;

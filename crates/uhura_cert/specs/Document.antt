@@ -1,0 +1,114 @@
+-- A document, and when its parts fit one another, so that it has a text.
+use Rattle.std.specs.Prelude.{◌≡◌, ℕ, ◌+◌, ◌<◌, ◌≤◌, List, [], ◌∷◌, length, Option, Some, IfSome, slice_get}
+use Rattle.std.specs.List.{AllByRecursion}
+use Rattle.uhura_plan.specs.declared.key.EdgeKey.{EdgeKey}
+use Rattle.uhura_plan.specs.declared.key.SideKey.{SideKey}
+use Rattle.uhura_plan.specs.declared.choice.Choice.{Choice}
+use Rattle.uhura_plan.specs.declared.requirement.Requirement.{Requirement}
+use Rattle.uhura_plan.specs.Lists.{Lists}
+use Rattle.uhura_plan.specs.Sound.{IsLiteralAmong}
+use Rattle.uhura_choice.specs.declared.prefix.Pick.{Pick}
+use Rattle.uhura_choice.specs.declared.prefix.Pick.TheVariants.{Alternative, Inactive}
+use Rattle.uhura_veto.specs.State.{State}
+use Rattle.uhura_command.specs.Replay.{IsMadeBy}
+use Rattle.uhura_command.specs.Script.{commands_of}
+use Rattle.uhura_item.specs.declared.limits.TheConstants.{GREATEST_COST, LATEST, SIDE_UNITS, EDGE_UNITS, ENTRY}
+use Rattle.uhura_item.specs.Item.{IsBetween, IsLineCommand}
+use Rattle.uhura_cert.specs.declared.document.Proposal.{Proposal}
+use Rattle.uhura_cert.specs.declared.document.Shared.{Shared}
+use Rattle.uhura_cert.specs.declared.document.Shared.TheVariants as shared
+use Rattle.uhura_cert.specs.declared.document.Reason.{Reason}
+use Rattle.uhura_cert.specs.declared.document.Reason.TheVariants as reason
+use Rattle.uhura_cert.specs.declared.document.Leaf.{Leaf}
+use Rattle.uhura_cert.specs.Order.{side_place, edge_place, IsItemAmong, IsEdgeAmong, Rises}
+
+-- a state, the answer to its question (none where nothing is allowed), the shared entries, and the leaves
+pub record Document : Type 0 where
+  pub version : ℕ
+  pub state : State
+  pub answer : Option Proposal
+  pub shared : List Shared
+  pub leaves : List Leaf
+
+-- the state is made by its own commands, each of which fits on a line
+pub record IsScripted (state : State) : Type 0 where
+  pub made : IsMadeBy state (commands_of state)
+  pub short : AllByRecursion IsLineCommand (commands_of state)
+
+-- ---- the answer
+
+-- sides of the plan in its order, each at most once, with units
+pub record AreRelaxed (plan : Lists) (sides : List (SideKey × ℕ)) : Type 0 where
+  pub among : AllByRecursion (λ s. IsItemAmong plan s.0.item) sides
+  pub units : AllByRecursion (λ s. IsBetween 1 SIDE_UNITS s.1) sides
+  pub in_order : Rises (λ s. side_place plan s.0) 0 sides
+
+-- picks of choices in their order, each at most once, and a time for each controllable event
+pub record IsProposal (plan : Lists) (p : Proposal) : Type 0 where
+  pub cost : p.cost ≤ GREATEST_COST
+  pub picks : AllByRecursion (IsLiteralAmong plan.choices) p.picks
+  pub picks_in_order : Rises (λ l. l.choice) 0 p.picks
+  pub sides : AreRelaxed plan p.loosening
+  pub times : length p.times ≡ length plan.events
+  pub times_within : AllByRecursion (λ time. time ≤ LATEST) p.times
+
+-- ---- what is shown
+
+-- edges of the plan in its order, each at most once, with units
+pub record AreEdgeUnits (plan : Lists) (edges : List (EdgeKey × ℕ)) : Type 0 where
+  pub among : AllByRecursion (λ e. IsEdgeAmong plan e.0) edges
+  pub units : AllByRecursion (λ e. IsBetween 1 EDGE_UNITS e.1) edges
+  pub in_order : Rises (λ e. edge_place plan e.0) 0 edges
+
+-- edges of the plan, in any order
+abbrev pub AreEdges : Lists → List EdgeKey → Type 0
+AreEdges plan edges = AllByRecursion (IsEdgeAmong plan) edges
+
+-- what an entry shows speaks of edges of the plan
+abbrev pub IsShared : Lists → Shared → Type 0
+IsShared plan (shared.Flow edges) = AreEdgeUnits plan edges
+IsShared plan (shared.Stuck edges) = AreEdges plan edges
+
+-- entries are for version 2 alone
+abbrev pub AreShared : ℕ → Lists → List Shared → Type 0
+AreShared version plan [] = Unit {0}
+AreShared version plan (entry ∷ entries) =
+    (version ≡ 2) × AllByRecursion (IsShared plan) (entry ∷ entries)
+
+-- a veto that is there; in version 1 what is shown itself, and in version 2 an entry that is there
+abbrev pub IsReason : ℕ → State → ℕ → Reason → Type 0
+IsReason version state entries (reason.Denied veto) = veto < length state.vetoes
+IsReason version state entries (reason.Flow edges) =
+    (version ≡ 1) × AreEdgeUnits state.plan edges
+IsReason version state entries (reason.Stuck edges) = (version ≡ 1) × AreEdges state.plan edges
+IsReason version state entries (reason.Entry entry) =
+    (version ≡ 2) × (entry < entries) × (entry ≤ ENTRY)
+
+-- an alternative of the choice, or nothing
+abbrev pub IsPickOf : Choice → Pick → Type 0
+IsPickOf c (Alternative a) = a < length c.alternatives
+IsPickOf c Inactive = Unit {0}
+
+-- at most one pick for each choice, in their order
+abbrev pub ArePicks : List Choice → List Pick → Type 0
+ArePicks choices [] = Unit {0}
+ArePicks [] (pick ∷ picks) = ⊥
+ArePicks (c ∷ choices) (pick ∷ picks) = IsPickOf c pick × ArePicks choices picks
+
+-- a prefix speaks of the choices, and its reason is one that the document may give
+pub record IsLeaf (version : ℕ) (state : State) (entries : ℕ) (leaf : Leaf) : Type 0 where
+  pub prefix : ArePicks state.plan.choices leaf.prefix
+  pub reason : IsReason version state entries leaf.reason
+
+-- the parts of a document fit: all names name something that is there, and all numbers are within their limits
+pub record IsDocument (d : Document) : Type 0 where
+  pub version : IsBetween 1 2 d.version
+  pub script : IsScripted d.state
+  pub answer : IfSome d.answer (IsProposal d.state.plan)
+  pub shared : AreShared d.version d.state.plan d.shared
+  pub leaves : AllByRecursion (IsLeaf d.version d.state (length d.shared)) d.leaves
+
+-- each requirement has its place as its slot
+abbrev pub HasPlacesAsSlots : Lists → Type 0
+HasPlacesAsSlots plan = (place : ℕ) (r : Requirement) →
+    slice_get plan.requirements place ≡ Some r → r.slot ≡ place
