@@ -10,7 +10,8 @@ use Rattle.uhura_plan.specs.Sound.{IsLiteralAmong}
 use Rattle.uhura_choice.specs.declared.prefix.Pick.{Pick}
 use Rattle.uhura_choice.specs.declared.prefix.Pick.TheVariants.{Alternative, Inactive}
 use Rattle.uhura_veto.specs.State.{State}
-use Rattle.uhura_command.specs.Replay.{IsMadeBy}
+use Rattle.uhura_command.specs.Replay.{IsMadeBy, Makes}
+use Rattle.uhura_command.specs.State.{empty_state}
 use Rattle.uhura_command.specs.Script.{commands_of}
 use Rattle.uhura_item.specs.declared.limits.TheConstants.{GREATEST_COST, LATEST, SIDE_UNITS, EDGE_UNITS, ENTRY}
 use Rattle.uhura_item.specs.Item.{IsBetween, IsLineCommand}
@@ -29,11 +30,6 @@ pub record Document : Type 0 where
   pub answer : Option Proposal
   pub shared : List Shared
   pub leaves : List Leaf
-
--- the state is made by its own commands, each of which fits on a line
-pub record IsScripted (state : State) : Type 0 where
-  pub made : IsMadeBy state (commands_of state)
-  pub short : AllByRecursion IsLineCommand (commands_of state)
 
 -- ---- the answer
 
@@ -100,15 +96,33 @@ pub record IsLeaf (version : ℕ) (state : State) (entries : ℕ) (leaf : Leaf) 
   pub prefix : ArePicks state.plan.choices leaf.prefix
   pub reason : IsReason version state entries leaf.reason
 
--- the parts of a document fit: all names name something that is there, and all numbers are within their limits
-pub record IsDocument (d : Document) : Type 0 where
+-- ---- the whole
+
+-- the state is made by its own commands, up to the slots of its requirements, and each of them fits on a line
+pub record IsScripted (state : State) : Type 0 where
+  pub made : IsMadeBy state (commands_of state)
+  pub short : AllByRecursion IsLineCommand (commands_of state)
+
+-- the other parts fit the state: all that they name is there, and all numbers are within their limits
+pub record HasFittingParts (d : Document) : Type 0 where
   pub version : IsBetween 1 2 d.version
-  pub script : IsScripted d.state
   pub answer : IfSome d.answer (IsProposal d.state.plan)
   pub shared : AreShared d.version d.state.plan d.shared
   pub leaves : AllByRecursion (IsLeaf d.version d.state (length d.shared)) d.leaves
+
+-- a document has a text
+pub record IsDocument (d : Document) : Type 0 where
+  pub script : IsScripted d.state
+  pub parts : HasFittingParts d
 
 -- each requirement has its place as its slot
 abbrev pub HasPlacesAsSlots : Lists → Type 0
 HasPlacesAsSlots plan = (place : ℕ) (r : Requirement) →
     slice_get plan.requirements place ≡ Some r → r.slot ≡ place
+
+-- a document as it is read: its commands make its very state, with places as slots
+pub record IsPlain (d : Document) : Type 0 where
+  pub made : Makes empty_state (commands_of d.state) d.state
+  pub short : AllByRecursion IsLineCommand (commands_of d.state)
+  pub slots : HasPlacesAsSlots d.state.plan
+  pub parts : HasFittingParts d

@@ -5,7 +5,11 @@
 mod document;
 mod listed;
 mod proposal;
+mod read;
+mod write;
 
 pub use document::{Document, DocumentRefusal, Leaf, Proposal, Reason, Shared};
 pub use listed::Listed;
 pub use proposal::put_proposal;
+pub use read::read_document;
+pub use write::{write_document, write_proposal};
