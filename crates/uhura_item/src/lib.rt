@@ -2,9 +2,11 @@
 //! it is read and written. What may follow what is no matter of this crate.
 #![tactic(auto)]
 
+mod head;
 mod item;
 mod limits;
 mod picks;
+mod word;
 
 pub use item::{EdgeKind, EdgeName, Item};
 pub use limits::{EDGE_UNITS, ENTRY, GREATEST_COST, LATEST, SIDE_UNITS};
