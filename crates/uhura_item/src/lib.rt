@@ -2,6 +2,8 @@
 //! it is read and written. What may follow what is no matter of this crate.
 #![tactic(auto)]
 
+mod behind;
+mod edge;
 mod head;
 mod item;
 mod limits;
