@@ -1,6 +1,6 @@
 -- The lines of a document, part by part, as items. What a document begins with has a name for each part that it ends
 -- with.
-use Rattle.std.specs.Prelude.{ℕ, List, [], ◌∷◌, ◌++◌, map, flat_map, Option, None, Some, codes}
+use Rattle.std.specs.Prelude.{ℕ, List, [], ◌∷◌, ◌++◌, map, flat_map, Option, None, Some}
 use Rattle.std.specs.List.{zip}
 use Rattle.uhura_plan.specs.declared.key.EdgeKey.{EdgeKey}
 use Rattle.uhura_plan.specs.declared.key.EdgeKey.TheVariants as key
@@ -18,7 +18,7 @@ use Rattle.uhura_item.specs.declared.item.EdgeName.{EdgeName}
 use Rattle.uhura_item.specs.declared.item.EdgeName.TheVariants.{Side, Order}
 use Rattle.uhura_item.specs.declared.item.Item.{Item}
 use Rattle.uhura_item.specs.declared.item.Item.TheVariants as item
-use Rattle.uhura_item.specs.Item.{spell}
+use Rattle.uhura_item.specs.Item.{spell, item_line}
 use Rattle.uhura_cert.specs.declared.document.Proposal.{Proposal}
 use Rattle.uhura_cert.specs.declared.document.Shared.{Shared}
 use Rattle.uhura_cert.specs.declared.document.Shared.TheVariants as shared
@@ -136,10 +136,6 @@ items_of d = to_leaves d ++ item.End ∷ []
 -- the same, spelled
 abbrev pub lines_of : Document → List (List ℕ)
 lines_of d = map spell (items_of d)
-
--- the line of an item, with its newline
-abbrev pub item_line : Item → List ℕ
-item_line i = spell i ++ codes "\n"
 
 -- the canonical text: each line with its newline
 abbrev pub text_of : Document → List ℕ

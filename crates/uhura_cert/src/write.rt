@@ -1,7 +1,8 @@
 //! Documents and proposals that are written.
 ghost use Rattle.std.specs.Prelude.{◌≡◌, ◌++◌, flat_map, IfOk, OnOk, OnErr};
 ghost use Rattle.uhura_cert.specs.Document.{IsProposal};
-ghost use Rattle.uhura_cert.specs.Items.{proposal_items, item_line, text_of};
+ghost use Rattle.uhura_item.specs.Item.{item_line};
+ghost use Rattle.uhura_cert.specs.Items.{proposal_items, text_of};
 ghost use Rattle.uhura_cert.specs.Text.{TextOf};
 ghost use Rattle.uhura_text.specs.Lines.{lines};
 

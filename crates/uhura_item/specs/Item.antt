@@ -66,6 +66,10 @@ item_words (item.Use entry) = codes "use" ∷ count_word entry ∷ []
 abbrev pub spell : Item → List ℕ
 spell i = joined (item_words i)
 
+-- the same with its newline
+abbrev pub item_line : Item → List ℕ
+item_line i = spell i ++ codes "\n"
+
 -- ---- what a line may hold
 
 -- a number from the least to the greatest

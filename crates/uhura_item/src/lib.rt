@@ -6,10 +6,13 @@ mod behind;
 mod edge;
 mod head;
 mod item;
+mod leaf;
 mod limits;
 mod picks;
 mod word;
+mod write;
 
 pub use item::{EdgeKind, EdgeName, Item};
 pub use limits::{EDGE_UNITS, ENTRY, GREATEST_COST, LATEST, SIDE_UNITS};
 pub use picks::Picks;
+pub use write::put_item;

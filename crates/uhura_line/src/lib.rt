@@ -17,4 +17,5 @@ pub use part::count::{is_end, next_three};
 pub use part::item::{ItemKind, put_item};
 pub use part::places::{put_side, put_word, read_side};
 pub use refusal::LineRefusal;
+pub use verb::put_command;
 pub use write::write_command;
