@@ -1,1 +1,3 @@
 pub mod Picking
+pub mod ItemWords
+pub mod ItemFound
