@@ -1,34 +1,28 @@
 -- The item whose words are read is found, and no words are of two items.
-use Rattle.std.proofs.Common.{◌≡◌, ℕ, ◌^◌, ◌<◌, ◌≤◌, ℤ, pos, true, false, true≢false, Bool, List, [], ◌∷◌, ◌++◌, length, map, Option, Some, None, IfSome, option_map, codes, bytes_eq, refl, ap, sym, ◌∙◌, arith, le-leb, append-nil}
+use Rattle.std.proofs.Common.{◌≡◌, ℕ, ◌^◌, ◌<◌, ◌≤◌, pos, false, true≢false, List, [], ◌∷◌, ◌++◌, length, map, Option, Some, None, IfSome, codes, bytes_eq, refl, ap, sym, ◌∙◌, arith, le-leb, append-nil}
 use Rattle.std.specs.List.{AllByRecursion}
 use Rattle.uhura_plan.specs.Name.{is_name, is_letter}
 use Rattle.uhura_plan.specs.declared.key.Side.{Side}
 use Rattle.uhura_plan.specs.declared.key.Side.TheVariants.{Lower, Upper}
 use Rattle.uhura_plan.specs.Sound.{IsName}
-use Rattle.uhura_text.specs.Words.{words, first_bad}
 use Rattle.uhura_text.specs.Number.{number_of}
 use Rattle.uhura_text.proofs.SpellingLemmas.{number_of-spelling}
-use Rattle.uhura_line.specs.declared.command.Command.{Command}
 use Rattle.uhura_line.specs.declared.command.ItemName.{ItemName}
 use Rattle.uhura_line.specs.declared.command.ItemName.TheVariants as named
 use Rattle.uhura_line.specs.Form.{Word, Form, words_of, side_word, event, uncertain, choice, require, bound, price, rate, range, prefer, deny, cap, withdraw, show, propose, prove}
 use Rattle.uhura_line.specs.Form as form
-use Rattle.uhura_line.specs.Reads.{count_word, form_of, kind_of, name_of}
-use Rattle.uhura_line.specs.Reader.{◌>>=◌, ended, side_in}
-use Rattle.uhura_line.specs.Written.{joined}
+use Rattle.uhura_line.specs.Reads.{count_word, kind_of, name_of}
+use Rattle.uhura_line.specs.Reader.{◌>>=◌, ended}
 use Rattle.uhura_line.proofs.Parts.{side_found}
 use Rattle.uhura_line.proofs.OneSpelling.{other_word}
-use Rattle.uhura_line.proofs.ReadsBack.{reads_back}
-use Rattle.uhura_line.proofs.OneCommand.{one_command_of_line}
 use Rattle.uhura_item.specs.declared.item.EdgeKind.{EdgeKind}
 use Rattle.uhura_item.specs.declared.item.EdgeKind.TheVariants as edge
 use Rattle.uhura_item.specs.declared.item.EdgeName.{EdgeName}
 use Rattle.uhura_item.specs.declared.item.EdgeName.TheVariants.{Side as OfSide, Order}
 use Rattle.uhura_item.specs.declared.item.Item.{Item}
 use Rattle.uhura_item.specs.declared.item.Item.TheVariants as item
-use Rattle.uhura_item.specs.Item.{edge_kind_word, edge_words, relax_word, pick_word, item_words, spell, IsBetween, IsEdgeName, IsItem}
-use Rattle.uhura_item.specs.Reader.{name_in, within, count_in, edge_kind_in, picked_in, picks_in, named_as, edge_part, head_in, item_behind, item_in}
-use Rattle.uhura_item.proofs.ItemWords.{item_are}
+use Rattle.uhura_item.specs.Item.{edge_kind_word, edge_words, pick_word, item_words, IsEdgeName, IsItem}
+use Rattle.uhura_item.specs.Reader.{name_in, within, count_in, edge_kind_in, picked_in, picks_in, named_as, edge_part, item_in}
 
 -- ---- single words
 

@@ -1,14 +1,13 @@
 -- The words of an item are words that a line may hold, and few enough for a line.
-use Rattle.std.proofs.Common.{◌≡◌, ℕ, ◌+◌, ◌^◌, ◌<◌, ◌≤◌, pos, true, List, [], ◌∷◌, ◌++◌, length, map, Option, Some, None, IfSome, codes, refl, arith, length-append}
+use Rattle.std.proofs.Common.{ℕ, ◌^◌, ◌<◌, ◌≤◌, pos, List, [], ◌∷◌, ◌++◌, length, map, Option, Some, None, IfSome, codes, refl, arith, length-append}
 use Rattle.std.specs.List.{AllByRecursion}
 use Rattle.std.proofs.lemmas.List.{length-map}
 use Rattle.uhura_plan.specs.declared.key.Side.{Side}
 use Rattle.uhura_plan.specs.declared.key.Side.TheVariants.{Lower, Upper}
 use Rattle.uhura_plan.specs.Sound.{IsName}
 use Rattle.uhura_text.proofs.SpellingLemmas.{number_of-spelling}
-use Rattle.uhura_line.specs.Form.{Word, Kind, requirement, duration, kind_word, side_word, words_of}
+use Rattle.uhura_line.specs.Form.{Word, Kind, requirement, duration, kind_word, side_word}
 use Rattle.uhura_line.specs.Reads.{count_word, form_of, kind_of, name_of}
-use Rattle.uhura_line.specs.Written.{joined}
 use Rattle.uhura_line.proofs.ReadsBack.{IsWord, AreWords}
 use Rattle.uhura_line.proofs.FormWords.{form_words, name_word, number_word, letters}
 use Rattle.uhura_line.proofs.LineLengths.{short_line}

@@ -4,7 +4,6 @@ use Rattle.std.specs.List.{AllByRecursion}
 use Rattle.std.proofs.lemmas.List.{take_more, map-append}
 use Rattle.uhura_plan.specs.Sound.{IsName}
 use Rattle.uhura_line.specs.Form.{Word}
-use Rattle.uhura_line.specs.Reader.{◌>>=◌}
 use Rattle.uhura_line.specs.Written.{spaced}
 use Rattle.uhura_line.proofs.Spacing.{spaced-append}
 use Rattle.uhura_item.specs.Item.{pick_word}

@@ -1,6 +1,6 @@
 -- The item that the words of a line are, as it is read from them. The laws of the crate say that it is the one whose
 -- words these are.
-use Rattle.std.specs.Prelude.{ℕ, ℤ, pos, negsuc, Bool, ◌&&◌, nat_le, if◌then◌else◌, List, [], ◌∷◌, length, Option, Some, None, option_map, bytes_eq, codes}
+use Rattle.std.specs.Prelude.{ℕ, ℤ, pos, negsuc, ◌&&◌, nat_le, if◌then◌else◌, List, [], ◌∷◌, length, Option, Some, None, option_map, bytes_eq, codes}
 use Rattle.uhura_plan.specs.declared.limits.TheConstants.{CHOICES}
 use Rattle.uhura_plan.specs.Name.{is_name}
 use Rattle.uhura_text.specs.Number.{number_of}

@@ -6,13 +6,16 @@ mod behind;
 mod edge;
 mod head;
 mod item;
+pub mod laws;
 mod leaf;
 mod limits;
 mod picks;
+mod read;
 mod word;
 mod write;
 
 pub use item::{EdgeKind, EdgeName, Item};
 pub use limits::{EDGE_UNITS, ENTRY, GREATEST_COST, LATEST, SIDE_UNITS};
 pub use picks::Picks;
+pub use read::read_item;
 pub use write::put_item;
