@@ -2,3 +2,4 @@ pub mod Walk
 pub mod PickLines
 pub mod Unloosened
 pub mod UnloosenedText
+pub mod Laws

@@ -3,3 +3,4 @@ pub mod Order
 pub mod Document
 pub mod Items
 pub mod Text
+pub mod Run
