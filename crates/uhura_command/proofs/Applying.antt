@@ -1,7 +1,14 @@
--- The answer of an edit of the plan is the state's.
-use Rattle.std.proofs.Common.{◌≡◌, Option, Some, None, option_map, Result, Ok, Err, ap, ◌∙◌}
+-- The answer of an edit of the plan or of its vetoes is the state's.
+use Rattle.std.proofs.Common.{◌≡◌, ℕ, List, Option, Some, None, option_map, Result, Ok, Err, ap, subst, ◌∙◌}
 use Rattle.uhura_plan.specs.declared.refusal.EditRefusal.{EditRefusal}
+use Rattle.uhura_plan.specs.declared.key.Side.{Side}
+use Rattle.uhura_plan.specs.Limits.{IsAmount}
 use Rattle.uhura_plan.specs.Refusals.{Answers, AnswersAlways}
+use Rattle.uhura_line.specs.declared.command.Command.{Command}
+use Rattle.uhura_line.specs.declared.command.Command.TheVariants as command
+use Rattle.uhura_line.specs.declared.command.ItemName.{ItemName}
+use Rattle.uhura_line.specs.Reads.{IsCommand}
+use Rattle.uhura_line.proofs.CommandLimits.{amount_within}
 use Rattle.uhura_command.specs.declared.state.refusal.StateRefusal.{StateRefusal}
 use Rattle.uhura_command.specs.Apply.{of_edit, AnswersFirst, IsPassedOn}
 
@@ -20,3 +27,7 @@ answers_always None (Ok done) result answered passed = rw passed tt
 answers_always None (Err refusal) result answered passed = let no : ⊥ = cc in absurd no
 answers_always (Some refusal) (Ok done) result answered passed = let no : ⊥ = cc in absurd no
 answers_always (Some refusal) (Err other) result answered passed = let same : other ≡ refusal = cc in passed ∙ ap (λ r. Err (of_edit r)) same
+
+-- the units of a cap that a line can give are an amount
+pub units_within : (c : Command) (name : List ℕ) (item : ItemName) (side : Side) (units : ℕ) → IsCommand c → c ≡ command.Cap name item side units → IsAmount units
+units_within c name item side units good is = amount_within units (subst IsCommand is good).numbers

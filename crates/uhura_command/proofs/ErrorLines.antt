@@ -27,7 +27,7 @@ state_error state.Kind text is = rw is refl
 state_error (state.Empty lower upper) text is = rw is refl
 state_error (state.Guard at) text is = rw is refl
 state_error (state.Full limit has) text is = rw is refl
-state_error state.Unbuilt text is = rw is refl
+state_error (state.Held slot) text is = rw is refl
 state_error (state.Memory error) text is = absurd is
 
 -- a command's line begins with its verb

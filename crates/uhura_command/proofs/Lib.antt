@@ -19,3 +19,8 @@ pub mod Applying
 pub mod Accepting
 pub mod Numbering
 pub mod Products
+pub mod Finding
+pub mod KeptVetoes
+pub mod CountedItems
+pub mod MakesVetoes
+pub mod VetoCommands

@@ -1,5 +1,5 @@
--- The commands of a plan make the plan, up to the slots of its requirements.
-use Rattle.std.proofs.Common.{◌≡◌, List, [], length, take, map, refl, subst, arith, append-nil}
+-- The commands of a state make the state, up to the slots of its requirements.
+use Rattle.std.proofs.Common.{◌≡◌, List, [], length, take, map, refl, subst, arith}
 use Rattle.std.proofs.lemmas.List.{take_all}
 use Rattle.uhura_plan.specs.Lists.{Lists}
 use Rattle.uhura_plan.specs.Sound.{IsSound}
@@ -14,6 +14,8 @@ use Rattle.uhura_command.proofs.MakesUncertains.{makes_uncertains}
 use Rattle.uhura_command.proofs.MakesChoices.{makes_choices}
 use Rattle.uhura_command.proofs.MakesRequirements.{makes_requirements}
 use Rattle.uhura_command.proofs.Numbering.{numbered, length-numbered, same_but_slots}
+use Rattle.uhura_command.proofs.CountedItems.{counted}
+use Rattle.uhura_command.proofs.MakesVetoes.{remade, remade_commands, makes_vetoes}
 
 -- a list is its own beginning up to its end
 whole : {X : Type 0} (xs : List X) → take (length xs) xs ≡ xs
@@ -52,20 +54,16 @@ module _ (plan : Lists) (sound : IsSound plan) where
   makes : Makes empty_state (plan_commands plan) with_requirements
   makes = Makes-append empty_state _ _ with_choices with_requirements (Makes-append empty_state _ _ with_uncertains with_choices (Makes-append empty_state _ _ with_events with_uncertains events uncertains) choices) requirements
 
--- a state without vetoes is made by the commands of its plan alone
-pub commands-unvetoed : (state : State) → IsSoundState state → commands_of state ≡ plan_commands state.plan
-commands-unvetoed state sound = rw sound.vetoes (append-nil (plan_commands state.plan))
-
 -- a sound state is made by its commands, from the empty state on
 pub makes_state : (state : State) → IsSoundState state → IsMadeBy state (commands_of state)
 makes_state state sound = record {
-  last = with_requirements state.plan sound.plan;
-  makes = rw (commands-unvetoed state sound) (makes state.plan sound.plan);
+  last = record { plan = counted state.plan sound.plan.distinct; vetoes = map (remade state.plan sound.plan) state.vetoes };
+  makes = Makes-append empty_state _ _ (with_requirements state.plan sound.plan) _ (makes state.plan sound.plan) (makes_vetoes state.plan sound.plan state.vetoes sound.vetoes);
   same = record {
     events = refl;
     uncertains = refl;
     choices = refl;
     requirements = same_but_slots 0 state.plan.requirements;
-    vetoes = rw sound.vetoes refl;
+    vetoes = remade_commands state.plan sound.plan state.vetoes sound.vetoes.there;
   };
 }

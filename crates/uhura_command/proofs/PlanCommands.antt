@@ -147,10 +147,9 @@ requirement_fits plan r sound is =
 
 -- ---- all of them
 
-pub commands_fit : (plan : Lists) → IsSound plan → AllByRecursion FitsLine (plan_commands plan)
+pub commands_fit : (plan : Lists) → IsSound plan → All FitsLine (plan_commands plan)
 commands_fit plan sound =
-    recursion_from_All FitsLine (plan_commands plan)
-    (All-append FitsLine _ _
+    All-append FitsLine _ _
     (All-append FitsLine _ _
     (All-append FitsLine _ _
     (All-map FitsLine (λ name. command.Event name) plan.events (All-weaker IsName (λ name. FitsLine (command.Event name)) event_fits plan.events sound.events))
@@ -159,4 +158,4 @@ commands_fit plan sound =
     (All-map FitsLine (choice_command plan) plan.choices
     (λ k d within. choice_fits plan k (get_or plan.choices k d) sound (sound.choices k (get_or plan.choices k d) (slice_get-get_or plan.choices k d within)))))
     (All-map FitsLine (requirement_command plan) plan.requirements
-    (All-weaker (IsSoundRequirement plan) (λ r. FitsLine (requirement_command plan r)) (λ r is. requirement_fits plan r sound is) plan.requirements sound.requirements)))
+    (All-weaker (IsSoundRequirement plan) (λ r. FitsLine (requirement_command plan r)) (λ r is. requirement_fits plan r sound is) plan.requirements sound.requirements))

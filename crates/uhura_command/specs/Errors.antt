@@ -33,7 +33,7 @@ IsStateError state.Kind text = text ≡ error_text (codes "9") (codes "Kind")
 IsStateError (state.Empty lower upper) text = text ≡ error_text (codes "10") (codes "Empty")
 IsStateError (state.Guard at) text = text ≡ error_text (codes "11") (codes "Guard")
 IsStateError (state.Full limit has) text = text ≡ error_text (codes "12") (codes "Full")
-IsStateError state.Unbuilt text = text ≡ unbuilt_text
+IsStateError (state.Held slot) text = text ≡ error_text (codes "13") (codes "Held")
 IsStateError (state.Memory error) text = ⊥
 
 -- the text begins as the line of an error

@@ -40,7 +40,7 @@ pub fn put_state_error(text: &mut Vec<u8>, refusal: StateRefusal) -> Result<(), 
         StateRefusal::Empty { .. } => rewrite(text, b"error 10 Empty\n"),
         StateRefusal::Guard { .. } => rewrite(text, b"error 11 Guard\n"),
         StateRefusal::Full { .. } => rewrite(text, b"error 12 Full\n"),
-        StateRefusal::Unbuilt => put_unbuilt(text),
+        StateRefusal::Held { .. } => rewrite(text, b"error 13 Held\n"),
         StateRefusal::Memory(error) => Err(error),
     }
 }

@@ -12,7 +12,7 @@ use std::marker::Model;
 use uhura_plan::Plan;
 use uhura_veto::Vetoes;
 
-/// What the lines so far have made: a plan, and vetoes, of which none can be made yet.
+/// What the lines so far have made: a plan, and vetoes of what it has.
 #[derive(Drop)]
 pub struct State {
     pub plan: Plan,
@@ -20,14 +20,14 @@ pub struct State {
 }
 
 impl Model for State {
-    ghost use Rattle.std.specs.Prelude.{◌≡◌, []};
     ghost use Rattle.uhura_veto.specs.State as asked;
+    ghost use Rattle.uhura_veto.specs.Vetoes.{AreVetoesOf};
 
     ghost Value = { asked.State };
 
     ghost view = { λ s. record { plan = s.plan; vetoes = s.vetoes } };
 
-    ghost invariant = { λ s. s.vetoes ≡ [] };
+    ghost invariant = { λ s. AreVetoesOf s.plan s.vetoes };
 }
 
 impl State {

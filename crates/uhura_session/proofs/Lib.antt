@@ -10,3 +10,4 @@ pub mod Conversing
 pub mod AnswersEdits
 pub mod ShowReplays
 pub mod Refusals
+pub mod SameVetoes

@@ -1,8 +1,9 @@
 //! The answer to `propose`: the first cheapest branch that has a schedule, with its earliest one, or `none`.
-ghost use Rattle.std.specs.Prelude.{◌≡◌, [], true, IfOk};
+ghost use Rattle.std.specs.Prelude.{◌≡◌, List, [], true, IfOk};
 ghost use Rattle.std.specs.List.{list_all};
 ghost use Rattle.uhura_plan.specs.Sound.{IsSound};
 ghost use Rattle.uhura_plan.specs.Sides.{loosening_rate, rate_of};
+ghost use Rattle.uhura_veto.specs.declared.veto.Veto.{Veto};
 ghost use Rattle.uhura_relax.specs.Schedule.{IsEarliestSchedule};
 ghost use Rattle.uhura_session.specs.Answers.{AnswersQuestion, IsProposed, is_rateless, is_unpriced_plan};
 ghost use Rattle.uhura_session.specs.Branches.{IsOpen};
@@ -52,10 +53,9 @@ fn put_answer(
     text: &mut Vec<u8>,
 ) -> Result<(), AllocError>
     requires unpriced { IsUnpriced plan.now }
-    requires unvetoed { vetoes.now ≡ [] }
     requires empty { text.old.items ≡ [] }
     ensures { IfOk result (λ _.
-        IsProposed (record { plan = plan.now; vetoes = [] }) text.new.items) }
+        IsProposed (record { plan = plan.now; vetoes = vetoes.now }) text.new.items) }
 {
     match best_branch(plan, vetoes, solver) {
         Some(branch) => {
@@ -79,7 +79,8 @@ fn schedule_branch(
     solver: &mut Solver,
 ) -> Result<Schedule, AllocError>
     requires unpriced { IsUnpriced plan.now }
-    requires open_branch { IsOpen (record { plan = plan.now; vetoes = [] }) branch.now }
+    requires open_branch { (vetoes : List Veto) ×
+        IsOpen (record { plan = plan.now; vetoes = vetoes }) branch.now }
     ensures { IfOk result (λ schedule. IsEarliestSchedule plan.now branch.now [] schedule) }
 {
     match solver.schedule(alloc, plan, branch) {

@@ -1,2 +1,7 @@
+mod Added
 mod Caps
+mod Denials
+mod Items
+mod Removed
 pub mod SoundRooms
+mod Unrefused

@@ -1,8 +1,10 @@
 //! The vetoes of a planner.
-ghost use Rattle.std.specs.Prelude.{◌≡◌, [], IfOk, length};
-ghost use Rattle.uhura_veto.specs.Vetoes.{AreSoundVetoes};
+ghost use Rattle.std.specs.Prelude.{◌≡◌, [], IfOk};
 
 mod copy;
+mod edit;
+mod look_up;
+mod refuse;
 
 use crate::Veto;
 use indexmap::IndexMap;
@@ -37,21 +39,5 @@ impl Vetoes {
         Ok(Vetoes {
             vetoes: IndexMap::new(alloc),
         })
-    }
-
-    /// The number of vetoes.
-    pub fn count(&self) -> u32
-        ensures count { result ≡ length self.now }
-        ensures sound { AreSoundVetoes self.now }
-    {
-        self.vetoes.len() as u32
-    }
-
-    /// The vetoes in their order.
-    pub(crate) fn items(&self) -> &[Veto]
-        ensures items { result.now ≡ self.now }
-        ensures sound { AreSoundVetoes self.now }
-    {
-        self.vetoes.values().as_slice()
     }
 }

@@ -24,9 +24,9 @@ pub enum StateRefusal {
     /// As many things as the limit allows are there, or more were given.
     #[error("the limit is {limit}, and there are {has}")]
     Full { limit: u32, has: u32 },
-    /// The command makes or withdraws a veto, which can't be done yet.
-    #[error("vetoes can't be made yet")]
-    Unbuilt,
+    /// A cap names the requirement in this slot.
+    #[error("a cap names the requirement in slot {slot}")]
+    Held { slot: u32 },
     /// Memory ran out.
     #[error("{0}")]
     Memory(AllocError),

@@ -1,39 +1,49 @@
 //! The canonical script of a state.
 ghost use Rattle.std.specs.Prelude.{◌≡◌, ◌++◌, ◌<◌, length, map, flat_map, slice_get, Some, All, IfOk, OnOk, OnErr};
 ghost use Rattle.uhura_plan.specs.Sound.{IsEventAmong, IsLiteralAmong, IsSoundRequirement};
+ghost use Rattle.uhura_veto.specs.Vetoes.{AreVetoesOf, IsItemOf, IsVetoOf};
 ghost use Rattle.uhura_line.specs.declared.command.Command.TheVariants as command;
-ghost use Rattle.uhura_command.specs.Script.{name_at, event_name, literal_names, guard_names};
+ghost use Rattle.uhura_command.specs.State.{IsSoundState};
+ghost use Rattle.uhura_command.specs.Script.{name_at, event_name, literal_names, guard_names, item_name};
 ghost use Rattle.uhura_command.specs.Script.{uncertain_command, choice_command, requirement_command};
-ghost use Rattle.uhura_command.specs.Script.{plan_commands, command_line, script};
+ghost use Rattle.uhura_command.specs.Script.{veto_command, command_line, script};
 
 use super::State;
 use std::alloc::{AllocError, Global};
-use uhura_line::{Command, Literals, write_command};
-use uhura_plan::{Alternatives, Choice, EventRef, Literal, Name, Plan, Requirement, Uncertain};
+use uhura_line::{Command, ItemName, Literals, write_command};
+use uhura_plan::{
+    Alternatives, Choice, EventRef, Item, Literal, Name, Plan, Requirement, Uncertain,
+};
+use uhura_veto::{Veto, Vetoes};
 
 impl State {
-    /// Appends the canonical script: a line for each controllable event, each duration, each choice and
-    /// each requirement, each list in its order. Read as a script by a new dialogue it makes the same
-    /// state up to the slots of requirements.
+    /// Appends the canonical script: a line for each controllable event, each duration, each choice,
+    /// each requirement and each veto, each list in its order. Read as a script by a new dialogue it
+    /// makes the same state up to the slots of requirements.
     pub fn script(&self, out: &mut Vec<u8>) -> Result<(), AllocError>
+        ensures sound { IsSoundState self.now }
         ensures ok { OnOk result (out.new.items ≡ out.old.items ++ script self.now) }
         ensures err { OnErr result (out.new.items ≡ out.old.items) }
     {
-        let text = script_text(out.allocator().clone()?, &self.plan)?;
+        // By its type the plan is sound, as the vetoes are.
+        let _ = self.plan.events();
+        let text = script_text(out.allocator().clone()?, &self.plan, &self.vetoes)?;
         out.extend_from_slice(text.as_slice())
     }
 }
 
-/// The canonical script of a plan.
-fn script_text(alloc: Global, plan: &Plan) -> Result<Vec<u8>, AllocError>
+/// The canonical script of a plan with vetoes of it.
+fn script_text(alloc: Global, plan: &Plan, vetoes: &Vetoes) -> Result<Vec<u8>, AllocError>
+    requires { AreVetoesOf plan.now vetoes.now }
     ensures { IfOk result (λ text.
-        text.items ≡ flat_map command_line (plan_commands plan.now)) }
+        text.items ≡ script (record { plan = plan.now; vetoes = vetoes.now })) }
 {
     let mut text = Vec::new(alloc);
     put_events(plan, &mut text)?;
     put_uncertains(plan, &mut text)?;
     put_choices(plan, &mut text)?;
     put_requirements(plan, &mut text)?;
+    put_vetoes(plan, vetoes, &mut text)?;
     Ok(text)
 }
 
@@ -91,6 +101,20 @@ fn put_requirements(plan: &Plan, text: &mut Vec<u8>) -> Result<(), AllocError>
     Ok(())
 }
 
+/// Appends the lines of the vetoes.
+fn put_vetoes(plan: &Plan, vetoes: &Vetoes, text: &mut Vec<u8>) -> Result<(), AllocError>
+    requires { AreVetoesOf plan.now vetoes.now }
+    ensures { IfOk result (λ _. text.new.items ≡
+        text.old.items ++ flat_map command_line (map (veto_command plan.now) vetoes.now)) }
+{
+    for place in 0..vetoes.count() {
+        let veto = vetoes.veto(place).unwrap();
+        let command = veto_command(text.allocator().clone()?, plan, veto)?;
+        write_command(text, &command)?;
+    }
+    Ok(())
+}
+
 /// The command that adds a duration.
 fn uncertain_command(plan: &Plan, uncertain: &Uncertain) -> Command
     requires { uncertain.now.start < length plan.now.events }
@@ -141,7 +165,37 @@ fn requirement_command(
     })
 }
 
-/// The names that spell the literals of a guard.
+/// The command that makes a veto.
+fn veto_command(alloc: Global, plan: &Plan, veto: &Veto) -> Result<Command, AllocError>
+    requires { IsVetoOf plan.now veto.now }
+    ensures { IfOk result (λ c. c ≡ veto_command plan.now veto.now) }
+{
+    match veto {
+        Veto::Deny { name, literals } => Ok(Command::Deny {
+            name: *name,
+            literals: guard_names(alloc, plan, literals.literals())?,
+        }),
+        Veto::Cap { name, key, units } => Ok(Command::Cap {
+            name: *name,
+            item: item_name(plan, key.item),
+            side: key.side,
+            units: *units,
+        }),
+    }
+}
+
+/// The name of an item, with its kind.
+fn item_name(plan: &Plan, item: Item) -> ItemName
+    requires { IsItemOf plan.now item }
+    ensures { result ≡ item_name plan.now item }
+{
+    match item {
+        Item::Requirement(slot) => ItemName::Require(plan.requirement_in(slot).unwrap().name),
+        Item::Uncertain(place) => ItemName::Uncertain(plan.uncertain(place).unwrap().name),
+    }
+}
+
+/// The names that spell the literals of a guard or of a denial.
 fn guard_names(alloc: Global, plan: &Plan, guard: &[Literal]) -> Result<Literals, AllocError>
     requires { All (IsLiteralAmong plan.now.choices) guard.now }
     ensures { IfOk result (λ names. names ≡ guard_names plan.now.choices guard.now) }

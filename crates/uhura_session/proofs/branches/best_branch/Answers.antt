@@ -1,4 +1,4 @@
-use Rattle.std.proofs.Common.{[], sym, subst}
+use Rattle.std.proofs.Common.{sym, subst}
 use Rattle.uhura_worst.specs.Filled.{IsTableOf}
 use Rattle.uhura_veto.specs.State.{State}
 use Rattle.uhura_session.specs.Branches.{IsBestOf}
@@ -8,7 +8,7 @@ use Rattle.uhura_session.proofs.branches.best_branch.Goals as goal
 
 pub walk-preserved : goal.walk-preserved
 walk-preserved c =
-    let state : State = record { plan = c.args.plan.now; vetoes = [] } in
+    let state : State = record { plan = c.args.plan.now; vetoes = c.args.vetoes.now } in
     let branch = c.walk.branch in
     let best = c.better-best.result in
     let up_to : IsBestOf (IsUpTo branch) state best = best-more state branch c.walk.best best c.walk.invariant.so_far c.better-best.ensures.chosen in
@@ -23,7 +23,7 @@ walk-smaller c = rank-falls c.args.plan.now.choices c.walk.branch c.in-Some.late
 
 pub returns-in_default : goal.returns-in_default
 returns-in_default c =
-    let state : State = record { plan = c.args.plan.now; vetoes = [] } in
+    let state : State = record { plan = c.args.plan.now; vetoes = c.args.vetoes.now } in
     let branch = c.walk.branch in
     let best = c.better-best.result in
     let up_to : IsBestOf (IsUpTo branch) state best = best-more state branch c.walk.best best c.walk.invariant.so_far c.better-best.ensures.chosen in

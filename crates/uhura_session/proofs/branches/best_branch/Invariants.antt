@@ -1,4 +1,3 @@
-use Rattle.std.proofs.Common.{[]}
 use Rattle.uhura_choice.specs.Branch.{IsBranch}
 use Rattle.uhura_worst.specs.Filled.{IsTableOf}
 use Rattle.uhura_session.specs.Branches.{IsBestOf}
@@ -10,8 +9,8 @@ use Rattle.uhura_session.proofs.branches.best_branch.Given as goal
 abbrev pub invariant-walk : goal.invariant-walk
 invariant-walk l = record {
   is_branch : IsBranch l.plan.choices l.branch;
-  so_far : IsBestOf (IsBefore l.branch) (record { plan = l.plan; vetoes = [] }) l.best;
-  edges : IsTableOf (record { plan = l.plan; vetoes = [] }) l.solver;
+  so_far : IsBestOf (IsBefore l.branch) (record { plan = l.plan; vetoes = l.vetoes }) l.best;
+  edges : IsTableOf (record { plan = l.plan; vetoes = l.vetoes }) l.solver;
 }
 
 abbrev pub decreases-walk : goal.decreases-walk

@@ -7,7 +7,7 @@ use Rattle.uhura_session.proofs.propose.put_answer.Goals as goal
 
 pub returns-in_ok-put_proposal-in-Some : goal.returns-in_ok-put_proposal-in-Some
 returns-in_ok-put_proposal-in-Some c =
-    let state : State = record { plan = c.args.plan.now; vetoes = [] } in
+    let state : State = record { plan = c.args.plan.now; vetoes = c.args.vetoes.now } in
     let branch = c.in-Some.branch in
     let schedule = c.in_ok-schedule-in-Some.schedule in
     inl (record {
@@ -18,4 +18,4 @@ returns-in_ok-put_proposal-in-Some c =
 
 pub returns-in_ok-extend_from_slice-in-None : goal.returns-in_ok-extend_from_slice-in-None
 returns-in_ok-extend_from_slice-in-None c =
-    inr (nothing_is_allowed (record { plan = c.args.plan.now; vetoes = [] }) c.requires.unpriced c.in-None.ensures, c.in_ok-extend_from_slice-in-None.ensures.items ∙ ap (λ xs. xs ++ codes "none\n") c.requires.empty)
+    inr (nothing_is_allowed (record { plan = c.args.plan.now; vetoes = c.args.vetoes.now }) c.requires.unpriced c.in-None.ensures, c.in_ok-extend_from_slice-in-None.ensures.items ∙ ap (λ xs. xs ++ codes "none\n") c.requires.empty)

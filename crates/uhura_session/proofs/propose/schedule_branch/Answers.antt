@@ -12,4 +12,4 @@ unreachable-requires c =
     let cycle = c.in-Err-Broken.field-0-0 in
     let broken : GivesEarliest plan branch [] (Err (Broken cycle)) =
     subst (λ error. GivesEarliest plan branch [] (Err error)) c.in-Err-Broken.field-0-is c.in-Err-Broken.ensures in
-    open_scheduled (record { plan = plan; vetoes = [] }) branch cycle.items c.requires.unpriced c.requires.open_branch broken
+    open_scheduled (record { plan = plan; vetoes = c.requires.open_branch.0 }) branch cycle.items c.requires.unpriced c.requires.open_branch.1 broken

@@ -46,14 +46,14 @@ set_preference-requires c = new_cost_within _ _ _ _ c.requires.command c.in-Pref
 
 -- the plan's answer is passed on
 pub returns-in-Uncertain-clause-answer : goal.returns-in-Uncertain-clause-answer
-returns-in-Uncertain-clause-answer c = λ vetoes.
+returns-in-Uncertain-clause-answer c =
     let u = c.in-Uncertain in
     let first = uncertain_refusal c.args.plan.now u.name u.start u.end u.lower u.upper in
     let answered : Answers first c.add_uncertain.result = search rules in
     rw u.is (answers_first first c.add_uncertain.result c.pass_on-in-Uncertain.result answered c.pass_on-in-Uncertain.ensures)
 
 pub returns-in-Require-clause-answer : goal.returns-in-Require-clause-answer
-returns-in-Require-clause-answer c = λ vetoes.
+returns-in-Require-clause-answer c =
     let r = c.in-Require in
     let first = λ (guard : List (List ℕ × List ℕ)). requirement_refusal c.args.plan.now r.name r.from r.to r.lower r.upper guard in
     let answered : Answers (first r.guard) c.add_requirement.result =
@@ -61,7 +61,7 @@ returns-in-Require-clause-answer c = λ vetoes.
     rw r.is (answers_first (first r.guard) c.add_requirement.result c.pass_on-in-Require.result answered c.pass_on-in-Require.ensures)
 
 pub returns-in-Bound-clause-answer : goal.returns-in-Bound-clause-answer
-returns-in-Bound-clause-answer c = λ vetoes.
+returns-in-Bound-clause-answer c =
     let b = c.in-Bound in
     let first = bound_refusal c.args.plan.now b.name b.side b.bound in
     rw b.is (answers_always first c.set_bound.result c.pass_on-in-Bound.result c.set_bound.ensures.answer c.pass_on-in-Bound.ensures)
