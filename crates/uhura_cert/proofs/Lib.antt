@@ -3,3 +3,4 @@ pub mod PickLines
 pub mod Unloosened
 pub mod UnloosenedText
 pub mod Laws
+pub mod ItemsFit

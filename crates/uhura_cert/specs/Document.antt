@@ -10,18 +10,17 @@ use Rattle.uhura_plan.specs.Sound.{IsLiteralAmong}
 use Rattle.uhura_choice.specs.declared.prefix.Pick.{Pick}
 use Rattle.uhura_choice.specs.declared.prefix.Pick.TheVariants.{Alternative, Inactive}
 use Rattle.uhura_veto.specs.State.{State}
-use Rattle.uhura_command.specs.Replay.{IsMadeBy, Makes}
-use Rattle.uhura_command.specs.State.{empty_state}
-use Rattle.uhura_command.specs.Script.{commands_of}
+use Rattle.uhura_veto.specs.Vetoes.{IsItemOf}
+use Rattle.uhura_command.specs.State.{IsSoundState}
 use Rattle.uhura_item.specs.declared.limits.TheConstants.{GREATEST_COST, LATEST, SIDE_UNITS, EDGE_UNITS, ENTRY}
-use Rattle.uhura_item.specs.Item.{IsBetween, IsLineCommand}
+use Rattle.uhura_item.specs.Item.{IsBetween}
 use Rattle.uhura_cert.specs.declared.document.Proposal.{Proposal}
 use Rattle.uhura_cert.specs.declared.document.Shared.{Shared}
 use Rattle.uhura_cert.specs.declared.document.Shared.TheVariants as shared
 use Rattle.uhura_cert.specs.declared.document.Reason.{Reason}
 use Rattle.uhura_cert.specs.declared.document.Reason.TheVariants as reason
 use Rattle.uhura_cert.specs.declared.document.Leaf.{Leaf}
-use Rattle.uhura_cert.specs.Order.{side_place, edge_place, IsItemAmong, IsEdgeAmong, Rises}
+use Rattle.uhura_cert.specs.Order.{place_in, side_place, edge_place, IsEdgeOf, Rises}
 
 -- a state, the answer to its question (none where nothing is allowed), the shared entries, and the leaves
 pub record Document : Type 0 where
@@ -34,50 +33,55 @@ pub record Document : Type 0 where
 -- ---- the answer
 
 -- sides of the plan in its order, each at most once, with units
-pub record AreRelaxed (plan : Lists) (sides : List (SideKey × ℕ)) : Type 0 where
-  pub among : AllByRecursion (λ s. IsItemAmong plan s.0.item) sides
+pub record AreRelaxed (place : ℕ → ℕ) (plan : Lists) (sides : List (SideKey × ℕ)) : Type 0 where
+  pub among : AllByRecursion (λ s. IsItemOf plan s.0.item) sides
   pub units : AllByRecursion (λ s. IsBetween 1 SIDE_UNITS s.1) sides
-  pub in_order : Rises (λ s. side_place plan s.0) 0 sides
+  pub in_order : Rises (λ s. side_place place s.0) 0 sides
 
 -- picks of choices in their order, each at most once, and a time for each controllable event
-pub record IsProposal (plan : Lists) (p : Proposal) : Type 0 where
+pub record FitsPlan (place : ℕ → ℕ) (plan : Lists) (p : Proposal) : Type 0 where
   pub cost : p.cost ≤ GREATEST_COST
   pub picks : AllByRecursion (IsLiteralAmong plan.choices) p.picks
   pub picks_in_order : Rises (λ l. l.choice) 0 p.picks
-  pub sides : AreRelaxed plan p.loosening
+  pub sides : AreRelaxed place plan p.loosening
   pub times : length p.times ≡ length plan.events
   pub times_within : AllByRecursion (λ time. time ≤ LATEST) p.times
+
+-- a proposal over a plan
+abbrev pub IsProposal : Lists → Proposal → Type 0
+IsProposal plan p = FitsPlan (place_in plan) plan p
 
 -- ---- what is shown
 
 -- edges of the plan in its order, each at most once, with units
-pub record AreEdgeUnits (plan : Lists) (edges : List (EdgeKey × ℕ)) : Type 0 where
-  pub among : AllByRecursion (λ e. IsEdgeAmong plan e.0) edges
+pub record AreEdgeUnits (place : ℕ → ℕ) (plan : Lists)
+    (edges : List (EdgeKey × ℕ)) : Type 0 where
+  pub among : AllByRecursion (λ e. IsEdgeOf plan e.0) edges
   pub units : AllByRecursion (λ e. IsBetween 1 EDGE_UNITS e.1) edges
-  pub in_order : Rises (λ e. edge_place plan e.0) 0 edges
+  pub in_order : Rises (λ e. edge_place place e.0) 0 edges
 
 -- edges of the plan, in any order
 abbrev pub AreEdges : Lists → List EdgeKey → Type 0
-AreEdges plan edges = AllByRecursion (IsEdgeAmong plan) edges
+AreEdges plan edges = AllByRecursion (IsEdgeOf plan) edges
 
 -- what an entry shows speaks of edges of the plan
-abbrev pub IsShared : Lists → Shared → Type 0
-IsShared plan (shared.Flow edges) = AreEdgeUnits plan edges
-IsShared plan (shared.Stuck edges) = AreEdges plan edges
+abbrev pub IsShared : (ℕ → ℕ) → Lists → Shared → Type 0
+IsShared place plan (shared.Flow edges) = AreEdgeUnits place plan edges
+IsShared place plan (shared.Stuck edges) = AreEdges plan edges
 
 -- entries are for version 2 alone
-abbrev pub AreShared : ℕ → Lists → List Shared → Type 0
-AreShared version plan [] = Unit {0}
-AreShared version plan (entry ∷ entries) =
-    (version ≡ 2) × AllByRecursion (IsShared plan) (entry ∷ entries)
+abbrev pub AreShared : (ℕ → ℕ) → ℕ → Lists → List Shared → Type 0
+AreShared place version plan entries =
+    AllByRecursion (λ entry. (version ≡ 2) × IsShared place plan entry) entries
 
 -- a veto that is there; in version 1 what is shown itself, and in version 2 an entry that is there
-abbrev pub IsReason : ℕ → State → ℕ → Reason → Type 0
-IsReason version state entries (reason.Denied veto) = veto < length state.vetoes
-IsReason version state entries (reason.Flow edges) =
-    (version ≡ 1) × AreEdgeUnits state.plan edges
-IsReason version state entries (reason.Stuck edges) = (version ≡ 1) × AreEdges state.plan edges
-IsReason version state entries (reason.Entry entry) =
+abbrev pub IsReason : (ℕ → ℕ) → ℕ → State → ℕ → Reason → Type 0
+IsReason place version state entries (reason.Denied veto) = veto < length state.vetoes
+IsReason place version state entries (reason.Flow edges) =
+    (version ≡ 1) × AreEdgeUnits place state.plan edges
+IsReason place version state entries (reason.Stuck edges) =
+    (version ≡ 1) × AreEdges state.plan edges
+IsReason place version state entries (reason.Entry entry) =
     (version ≡ 2) × (entry < entries) × (entry ≤ ENTRY)
 
 -- an alternative of the choice, or nothing
@@ -92,37 +96,26 @@ ArePicks [] (pick ∷ picks) = ⊥
 ArePicks (c ∷ choices) (pick ∷ picks) = IsPickOf c pick × ArePicks choices picks
 
 -- a prefix speaks of the choices, and its reason is one that the document may give
-pub record IsLeaf (version : ℕ) (state : State) (entries : ℕ) (leaf : Leaf) : Type 0 where
+pub record IsLeaf (place : ℕ → ℕ) (version : ℕ) (state : State) (entries : ℕ)
+    (leaf : Leaf) : Type 0 where
   pub prefix : ArePicks state.plan.choices leaf.prefix
-  pub reason : IsReason version state entries leaf.reason
+  pub reason : IsReason place version state entries leaf.reason
 
 -- ---- the whole
 
--- the state is made by its own commands, up to the slots of its requirements, and each of them fits on a line
-pub record IsScripted (state : State) : Type 0 where
-  pub made : IsMadeBy state (commands_of state)
-  pub short : AllByRecursion IsLineCommand (commands_of state)
-
--- the other parts fit the state: all that they name is there, and all numbers are within their limits
-pub record HasFittingParts (d : Document) : Type 0 where
+-- the parts of a document fit its state: all that they name is there, and all numbers are within their limits
+pub record HasFittingParts (place : ℕ → ℕ) (d : Document) : Type 0 where
   pub version : IsBetween 1 2 d.version
-  pub answer : IfSome d.answer (IsProposal d.state.plan)
-  pub shared : AreShared d.version d.state.plan d.shared
-  pub leaves : AllByRecursion (IsLeaf d.version d.state (length d.shared)) d.leaves
+  pub answer : IfSome d.answer (FitsPlan place d.state.plan)
+  pub shared : AreShared place d.version d.state.plan d.shared
+  pub leaves : AllByRecursion (IsLeaf place d.version d.state (length d.shared)) d.leaves
 
--- a document has a text
+-- a document has a text: its state is sound, and its parts fit
 pub record IsDocument (d : Document) : Type 0 where
-  pub script : IsScripted d.state
-  pub parts : HasFittingParts d
+  pub state : IsSoundState d.state
+  pub parts : HasFittingParts (place_in d.state.plan) d
 
 -- each requirement has its place as its slot
 abbrev pub HasPlacesAsSlots : Lists → Type 0
 HasPlacesAsSlots plan = (place : ℕ) (r : Requirement) →
     slice_get plan.requirements place ≡ Some r → r.slot ≡ place
-
--- a document as it is read: its commands make its very state, with places as slots
-pub record IsPlain (d : Document) : Type 0 where
-  pub made : Makes empty_state (commands_of d.state) d.state
-  pub short : AllByRecursion IsLineCommand (commands_of d.state)
-  pub slots : HasPlacesAsSlots d.state.plan
-  pub parts : HasFittingParts d

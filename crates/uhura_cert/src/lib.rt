@@ -3,6 +3,7 @@
 #![tactic(auto)]
 
 mod document;
+mod items;
 mod listed;
 mod proposal;
 mod read;
