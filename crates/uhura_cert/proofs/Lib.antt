@@ -4,3 +4,4 @@ pub mod Unloosened
 pub mod UnloosenedText
 pub mod Laws
 pub mod ItemsFit
+pub mod Writing

@@ -5,6 +5,7 @@
 mod document;
 mod items;
 mod listed;
+mod lists;
 mod proposal;
 mod read;
 mod write;
