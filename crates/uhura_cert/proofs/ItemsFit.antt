@@ -38,6 +38,7 @@ use Rattle.uhura_cert.specs.declared.document.Reason.{Reason}
 use Rattle.uhura_cert.specs.declared.document.Reason.TheVariants as reason
 use Rattle.uhura_cert.specs.declared.document.Leaf.{Leaf}
 use Rattle.uhura_cert.specs.Order.{place_in, IsEdgeOf}
+use Rattle.uhura_cert.proofs.Writing.{at_each}
 use Rattle.uhura_cert.specs.Document.{Document, FitsPlan, AreEdgeUnits, AreEdges, IsShared, AreShared, IsReason, IsPickOf, ArePicks, IsLeaf, HasFittingParts, IsDocument}
 use Rattle.uhura_cert.specs.Items.{pick_item, relax_item, time_item, to_cost, to_picks, to_sides, to_times, proposal_items, answer_items, edge_name, units_item, edge_item, shared_items, reason_items, picked_name, picked_names, leaf_items, to_version, to_script, to_question, to_answer, to_shared, to_leaves, items_of}
 
@@ -189,3 +190,22 @@ items_fit place d sound parts =
     let leaves = all_append IsItem (to_shared d) (flat_map (leaf_items d.state) d.leaves) entries
     (all_flat_mapped IsItem (IsLeaf place d.version d.state (length d.shared)) (leaf_items d.state) (λ leaf is. leaf_fits place d.version d.state (length d.shared) leaf sound is) d.leaves parts.leaves) in
     all_append IsItem (to_leaves d) (item.End ∷ []) leaves (tt, tt)
+
+-- ---- the lists of a proposal, as its writer wants them
+
+pub record AreWritable (plan : Lists) (p : Proposal) : Type 0 where
+  pub picks_among : All (IsLiteralAmong plan.choices) p.picks
+  pub picks_fit : All (λ l. IsItem (pick_item plan l)) p.picks
+  pub sides_there : All (λ s. IsItemOf plan s.0.item) p.loosening
+  pub sides_fit : All (λ s. IsItem (relax_item plan s)) p.loosening
+  pub times_within : All (λ time. time ≤ 10000000000000) p.times
+
+pub proposal_writable : (plan : Lists) (p : Proposal) → IsSound plan → FitsPlan (place_in plan) plan p → AreWritable plan p
+proposal_writable plan p sound fits = record {
+  picks_among = at_each (IsLiteralAmong plan.choices) p.picks fits.picks;
+  picks_fit = All-weaker (IsLiteralAmong plan.choices) (λ l. IsItem (pick_item plan l)) (λ l among. pick_fits plan l sound among) p.picks (at_each (IsLiteralAmong plan.choices) p.picks fits.picks);
+  sides_there = at_each (λ s. IsItemOf plan s.0.item) p.loosening fits.sides.among;
+  sides_fit = All-weaker (λ s. IsItemOf plan s.0.item × IsBetween 1 10000000000000 s.1) (λ s. IsItem (relax_item plan s)) (λ s is. (thing_named plan s.0.item sound is.0, is.1)) p.loosening
+      (at_each (λ s. IsItemOf plan s.0.item × IsBetween 1 10000000000000 s.1) p.loosening (all_both (λ s. IsItemOf plan s.0.item) (λ s. IsBetween 1 10000000000000 s.1) p.loosening fits.sides.among fits.sides.units));
+  times_within = at_each (λ time. time ≤ 10000000000000) p.times fits.times_within;
+}

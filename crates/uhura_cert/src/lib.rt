@@ -4,6 +4,7 @@
 
 mod document;
 mod items;
+mod leaf;
 mod listed;
 mod lists;
 mod proposal;
