@@ -4,3 +4,4 @@ pub mod Document
 pub mod Items
 pub mod Text
 pub mod Run
+pub mod Machine
