@@ -5,3 +5,5 @@ pub mod UnloosenedText
 pub mod Laws
 pub mod ItemsFit
 pub mod Writing
+pub mod Ordered
+pub mod FoundNames

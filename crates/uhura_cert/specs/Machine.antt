@@ -148,7 +148,7 @@ abbrev pub later : State → Command → ℕ
 later state (command.Event name) =
     length state.plan.uncertains + length state.plan.choices + length state.plan.requirements
     + length state.vetoes
-later state (command.Uncertain name start end lower upper lower_rate upper_rate) =
+later state (command.Uncertain name from end lower upper lower_rate upper_rate) =
     length state.plan.choices + length state.plan.requirements + length state.vetoes
 later state (command.Choice name alternatives guard) =
     length state.plan.requirements + length state.vetoes
@@ -172,7 +172,7 @@ pub record IsNextPick (plan : Lists) (literals : List Literal) (choice alternati
 pub record IsNextSide (plan : Lists) (relaxed : List (SideKey × ℕ)) (i : ItemName) (side : Side)
     (k : SideKey) : Type 0 where
   pub found : item_named plan (kind_named i) (name_of i) ≡ Some k.item
-  pub side : k.side ≡ side
+  pub of_side : k.side ≡ side
   pub later : end_of (λ s. side_place in_place s.0) 0 relaxed ≤ side_place in_place k
 
 -- which edge of a side
@@ -345,8 +345,8 @@ pub record Takes (s : Spot) (line : List ℕ) (next : Spot) : Type 0 where
 
 -- a version, and a sound state with places as slots
 pub record IsBegun (version : ℕ) (state : State) : Type 0 where
-  pub version : IsBetween 1 2 version
-  pub state : IsSoundState state
+  pub is_version : IsBetween 1 2 version
+  pub sound : IsSoundState state
   pub slots : HasPlacesAsSlots state.plan
 
 -- a proposal of which the last times may be missing
