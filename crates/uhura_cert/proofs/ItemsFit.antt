@@ -209,3 +209,11 @@ proposal_writable plan p sound fits = record {
       (at_each (λ s. IsItemOf plan s.0.item × IsBetween 1 10000000000000 s.1) p.loosening (all_both (λ s. IsItemOf plan s.0.item) (λ s. IsBetween 1 10000000000000 s.1) p.loosening fits.sides.among fits.sides.units));
   times_within = at_each (λ time. time ≤ 10000000000000) p.times fits.times_within;
 }
+
+pub units_writable : (plan : Lists) (edges : List (EdgeKey × ℕ)) → IsSound plan → AreEdgeUnits (place_in plan) plan edges → All (λ e. IsItem (units_item plan e)) edges
+units_writable plan edges sound are =
+    All-weaker (λ e. IsEdgeOf plan e.0 × IsBetween 1 10000000000 e.1) (λ e. IsItem (units_item plan e)) (λ e is. (edge_named plan e.0 sound is.0, is.1)) edges
+    (at_each (λ e. IsEdgeOf plan e.0 × IsBetween 1 10000000000 e.1) edges (all_both (λ e. IsEdgeOf plan e.0) (λ e. IsBetween 1 10000000000 e.1) edges are.among are.units))
+
+pub edges_writable : (plan : Lists) (edges : List EdgeKey) → IsSound plan → AreEdges plan edges → All (λ e. IsItem (edge_item plan e)) edges
+edges_writable plan edges sound are = All-weaker (IsEdgeOf plan) (λ e. IsItem (edge_item plan e)) (λ e is. edge_named plan e sound is) edges (at_each (IsEdgeOf plan) edges are)

@@ -112,3 +112,7 @@ lines_behind old text new items more before written =
 pub line_behind : (old text new : List ℕ) (items : List Item) (i : Item) → text ≡ old ++ flat_map item_line items → new ≡ text ++ item_line i → new ≡ old ++ flat_map item_line (items ++ i ∷ [])
 line_behind old text new items i before written =
     lines_behind old text new items (i ∷ []) before (line_first text new i written)
+
+-- several lines behind the one that begins them
+pub lines_headed : (old text new : List ℕ) (i : Item) (more : List Item) → text ≡ old ++ item_line i → new ≡ text ++ flat_map item_line more → new ≡ old ++ flat_map item_line (i ∷ more)
+lines_headed old text new i more before written = lines_behind old text new (i ∷ []) more (line_first old text i before) written
