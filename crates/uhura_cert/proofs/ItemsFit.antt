@@ -38,8 +38,8 @@ use Rattle.uhura_cert.specs.declared.document.Reason.{Reason}
 use Rattle.uhura_cert.specs.declared.document.Reason.TheVariants as reason
 use Rattle.uhura_cert.specs.declared.document.Leaf.{Leaf}
 use Rattle.uhura_cert.specs.Order.{place_in, IsEdgeOf}
-use Rattle.uhura_cert.proofs.Writing.{at_each}
-use Rattle.uhura_cert.specs.Document.{Document, FitsPlan, AreEdgeUnits, AreEdges, IsShared, AreShared, IsReason, IsPickOf, ArePicks, IsLeaf, HasFittingParts, IsDocument}
+use Rattle.uhura_cert.proofs.Writing.{at_each, length-picked}
+use Rattle.uhura_cert.specs.Document.{Document, FitsPlan, AreEdgeUnits, AreEdges, IsShared, AreShared, IsReasonOf, IsPickOf, ArePicks, IsLeaf, HasFittingParts, IsDocument}
 use Rattle.uhura_cert.specs.Items.{pick_item, relax_item, time_item, to_cost, to_picks, to_sides, to_times, proposal_items, answer_items, edge_name, units_item, edge_item, shared_items, reason_items, picked_name, picked_names, leaf_items, to_version, to_script, to_question, to_answer, to_shared, to_leaves, items_of}
 
 -- ---- all of a list
@@ -139,11 +139,11 @@ veto_named : (state : State) (veto : ℕ) → IsSoundState state → veto < leng
 veto_named state veto sound there =
     place_named (veto_names state.vetoes) veto (All-map IsName veto_name state.vetoes sound.vetoes.sound.names) (omega (arith, there, length-map state.vetoes veto_name))
 
-reason_fits : (place : ℕ → ℕ) (version : ℕ) (state : State) (entries : ℕ) (r : Reason) → IsSoundState state → IsReason place version state entries r → AllByRecursion IsItem (reason_items state r)
-reason_fits place version state entries (reason.Denied veto) sound fits = (veto_named state veto sound fits, tt)
-reason_fits place version state entries (reason.Flow edges) sound fits = (tt, units_fit place state.plan edges sound.plan fits.1)
-reason_fits place version state entries (reason.Stuck edges) sound fits = (tt, edges_fit state.plan edges sound.plan fits.1)
-reason_fits place version state entries (reason.Entry entry) sound fits = (fits.2, tt)
+reason_fits : (place : ℕ → ℕ) (state : State) (r : Reason) → IsSoundState state → IsReasonOf place state r → AllByRecursion IsItem (reason_items state r)
+reason_fits place state (reason.Denied veto) sound fits = (veto_named state veto sound fits, tt)
+reason_fits place state (reason.Flow edges) sound fits = (tt, units_fit place state.plan edges sound.plan fits)
+reason_fits place state (reason.Stuck edges) sound fits = (tt, edges_fit state.plan edges sound.plan fits)
+reason_fits place state (reason.Entry entry) sound fits = (fits, tt)
 
 -- a choice with names
 abbrev HasNames : Choice → Type 0
@@ -170,7 +170,7 @@ choices_named plan sound = λ k d within. (sound.choices k (get_or plan.choices 
 leaf_fits : (place : ℕ → ℕ) (version : ℕ) (state : State) (entries : ℕ) (leaf : Leaf) → IsSoundState state → IsLeaf place version state entries leaf → AllByRecursion IsItem (leaf_items state leaf)
 leaf_fits place version state entries leaf sound fits = (
   (prefix_named state.plan.choices leaf.prefix (choices_named state.plan sound.plan) fits.prefix, omega (arith, prefix_short state.plan.choices leaf.prefix, sound.plan.counts.choices)),
-  reason_fits place version state entries leaf.reason sound fits.reason,
+  reason_fits place state leaf.reason sound fits.reason,
 )
 
 -- ---- the whole
@@ -217,3 +217,11 @@ units_writable plan edges sound are =
 
 pub edges_writable : (plan : Lists) (edges : List EdgeKey) → IsSound plan → AreEdges plan edges → All (λ e. IsItem (edge_item plan e)) edges
 edges_writable plan edges sound are = All-weaker (IsEdgeOf plan) (λ e. IsItem (edge_item plan e)) (λ e is. edge_named plan e sound is) edges (at_each (IsEdgeOf plan) edges are)
+
+-- the picks of a leaf are few, and their line may stand
+pub few_picks : (plan : Lists) (picks : List Pick) → IsSound plan → ArePicks plan.choices picks → length picks ≤ 16
+few_picks plan picks sound are = omega (arith, length-picked plan.choices picks are, prefix_short plan.choices picks, sound.counts.choices)
+
+pub picks_writable : (plan : Lists) (picks : List Pick) → IsSound plan → ArePicks plan.choices picks → IsItem (item.Leaf (picked_names plan.choices picks))
+picks_writable plan picks sound are =
+    (prefix_named plan.choices picks (choices_named plan sound) are, omega (arith, prefix_short plan.choices picks, sound.counts.choices))

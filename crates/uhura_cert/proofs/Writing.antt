@@ -4,7 +4,13 @@ use Rattle.std.specs.List.{AllByRecursion, zip}
 use Rattle.std.proofs.lemmas.List.{take_more, take_all, map-append}
 use Rattle.std.proofs.lemmas.Grind.{flat_map-append}
 use Rattle.std.proofs.lemmas.List.Elements.{All-cons, All-nil}
+use Rattle.uhura_line.specs.declared.command.Command.{Command}
+use Rattle.uhura_line.specs.Form.{words_of}
+use Rattle.uhura_line.specs.Reads.{form_of}
+use Rattle.uhura_line.proofs.Spacing.{line_of-joined}
+use Rattle.uhura_command.specs.Script.{command_line}
 use Rattle.uhura_item.specs.declared.item.Item.{Item}
+use Rattle.uhura_item.specs.declared.item.Item.TheVariants as item
 use Rattle.uhura_item.specs.Item.{item_line, IsItem}
 use Rattle.uhura_plan.specs.declared.choice.Choice.{Choice}
 use Rattle.uhura_choice.specs.declared.prefix.Pick.{Pick}
@@ -116,3 +122,10 @@ line_behind old text new items i before written =
 -- several lines behind the one that begins them
 pub lines_headed : (old text new : List ℕ) (i : Item) (more : List Item) → text ≡ old ++ item_line i → new ≡ text ++ flat_map item_line more → new ≡ old ++ flat_map item_line (i ∷ more)
 lines_headed old text new i more before written = lines_behind old text new (i ∷ []) more (line_first old text i before) written
+
+-- the canonical script is the lines of its commands
+pub script_lines : (cs : List Command) → flat_map command_line cs ≡ flat_map item_line (map (λ c. item.Command c) cs)
+script_lines [] = refl
+script_lines (c ∷ cs) =
+    ap (λ line. line ++ flat_map command_line cs) (line_of-joined (words_of (form_of c)))
+    ∙ ap (λ more. item_line (item.Command c) ++ more) (script_lines cs)

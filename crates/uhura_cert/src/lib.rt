@@ -5,6 +5,7 @@
 mod document;
 mod items;
 mod leaf;
+mod leaf_lines;
 mod listed;
 mod lists;
 mod proposal;

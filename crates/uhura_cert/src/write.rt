@@ -2,13 +2,14 @@
 ghost use Rattle.std.specs.Prelude.{◌≡◌, ◌++◌, ◌∷◌, map, flat_map, IfOk, IfSome, OnOk, OnErr};
 ghost use Rattle.uhura_text.specs.Lines.{lines};
 ghost use Rattle.uhura_item.specs.Item.{item_line, IsItem};
-ghost use Rattle.uhura_cert.specs.Document.{IsProposal, AreEdgeUnits, AreEdges, IsShared};
+ghost use Rattle.uhura_cert.specs.Document.{IsDocument, IsProposal, AreEdgeUnits, AreEdges, IsShared};
 ghost use Rattle.uhura_cert.specs.Order.{place_in};
 ghost use Rattle.uhura_cert.specs.Items.{proposal_items, answer_items, units_item, edge_item, shared_items, text_of};
 ghost use Rattle.uhura_cert.specs.Text.{TextOf};
 
 use crate::lists::{put_edges, put_picks, put_sides, put_times, put_units};
-use crate::{Document, Proposal, Shared};
+use crate::leaf_lines::{put_entries, put_leaves};
+use crate::{Document, Leaf, Proposal, Shared};
 use std::alloc::{AllocError, Global};
 use uhura_command::State;
 use uhura_item::{Item, put_item};
@@ -93,7 +94,7 @@ fn put_walk(out: &mut Vec<u8>, plan: &Plan, edges: &[EdgeKey]) -> Result<(), All
 }
 
 /// Appends a circulation behind the line that begins it.
-fn put_headed_flow(
+pub(crate) fn put_headed_flow(
     out: &mut Vec<u8>,
     plan: &Plan,
     head: &Item,
@@ -110,7 +111,7 @@ fn put_headed_flow(
 }
 
 /// Appends a walk behind the line that begins it.
-fn put_headed_walk(
+pub(crate) fn put_headed_walk(
     out: &mut Vec<u8>,
     plan: &Plan,
     head: &Item,
@@ -127,7 +128,7 @@ fn put_headed_walk(
 }
 
 /// Appends the lines of a shared entry.
-fn put_shared(out: &mut Vec<u8>, plan: &Plan, entry: &Shared) -> Result<(), AllocError>
+pub(crate) fn put_shared(out: &mut Vec<u8>, plan: &Plan, entry: &Shared) -> Result<(), AllocError>
     requires { IsShared (place_in plan.now) plan.now entry.now }
     ensures { IfOk result (λ _. out.new.items ≡
         out.old.items ++ flat_map item_line (shared_items plan.now entry.now)) }
@@ -139,10 +140,53 @@ fn put_shared(out: &mut Vec<u8>, plan: &Plan, entry: &Shared) -> Result<(), Allo
     Ok(())
 }
 
-/// The canonical text of a document. Not built yet: it always wants memory.
+/// The canonical text of a document of these parts.
+fn parts_text(
+    alloc: Global,
+    version: u32,
+    state: &State,
+    answer: &Option<Proposal>,
+    shared: &[Shared],
+    leaves: &[Leaf],
+) -> Result<Vec<u8>, AllocError>
+    requires { IsDocument (record {
+      version = version;
+      state = state.now;
+      answer = answer.now;
+      shared = shared.now;
+      leaves = leaves.now;
+    }) }
+    ensures { IfOk result (λ text. text.items ≡ text_of (record {
+      version = version;
+      state = state.now;
+      answer = answer.now;
+      shared = shared.now;
+      leaves = leaves.now;
+    })) }
+{
+    let mut text = Vec::new(alloc);
+    put_item(&mut text, &Item::Version(version))?;
+    state.script(&mut text)?;
+    put_item(&mut text, &Item::Answer)?;
+    put_answer(&mut text, &state.plan, answer)?;
+    put_entries(&mut text, &state.plan, shared)?;
+    put_leaves(&mut text, state, leaves)?;
+    put_item(&mut text, &Item::End)?;
+    Ok(text)
+}
+
+/// The canonical text of a document. Its lines are the document's.
 pub fn write_document(alloc: Global, document: &Document) -> Result<Vec<u8>, AllocError>
     ensures text { IfOk result (λ text. text.items ≡ text_of document.now) }
     ensures reads_back { IfOk result (λ text. TextOf document.now (lines text.items)) }
 {
-    Err(AllocError)
+    let text = parts_text(
+        alloc,
+        document.version,
+        &document.state,
+        &document.answer,
+        document.shared.as_slice(),
+        document.leaves.as_slice(),
+    )?;
+    Ok(text)
 }
