@@ -1,5 +1,5 @@
 -- The lines of a document are such as a line may be: its names are names, and its numbers are within their limits.
-use Rattle.std.proofs.Common.{◌≡◌, ℕ, ◌<◌, ◌≤◌, Bool, true, false, cond, ◌&&◌, ◌==◌, List, [], ◌∷◌, ◌++◌, length, map, flat_map, Option, Some, None, IsSome, IfSome, All, find, get_or, slice_get, refl, sym, ap, subst, ◌∙◌, arith}
+use Rattle.std.proofs.Common.{◌≡◌, ℕ, ◌<◌, ◌≤◌, Bool, true, false, cond, ◌&&◌, ◌==◌, List, [], ◌∷◌, ◌++◌, length, map, flat_map, Option, Some, None, IsSome, IfSome, All, find, get_or, arith}
 use Rattle.std.specs.List.{AllByRecursion, zip}
 use Rattle.std.specs.Option.{option_map_or}
 use Rattle.std.proofs.lemmas.Bool.{and_parts}
@@ -8,7 +8,6 @@ use Rattle.std.proofs.lemmas.Option.{slice_get-get_or}
 use Rattle.std.proofs.lemmas.List.Elements.{All-map, All-head, All-tail, All-weaker, All-cons, All-nil}
 use Rattle.uhura_plan.specs.declared.key.EdgeKey.{EdgeKey}
 use Rattle.uhura_plan.specs.declared.key.EdgeKey.TheVariants as key
-use Rattle.uhura_plan.specs.declared.key.SideKey.{SideKey}
 use Rattle.uhura_plan.specs.declared.key.Item.{Item as Thing}
 use Rattle.uhura_plan.specs.declared.key.Item.TheVariants.{Requirement as InSlot, Uncertain as AtPlace}
 use Rattle.uhura_plan.specs.declared.guard.Literal.{Literal}
@@ -16,19 +15,17 @@ use Rattle.uhura_plan.specs.declared.choice.Choice.{Choice}
 use Rattle.uhura_plan.specs.declared.requirement.Requirement.{Requirement}
 use Rattle.uhura_plan.specs.Name.{is_name}
 use Rattle.uhura_plan.specs.Lists.{Lists, uncertain_names, alternative_names}
-use Rattle.uhura_plan.specs.Sound.{IsName, IsSound, IsSoundChoice, IsSoundUncertain, IsSoundRequirement, IsLiteralAmong}
+use Rattle.uhura_plan.specs.Sound.{IsName, IsSound, IsSoundUncertain, IsSoundRequirement, IsLiteralAmong}
 use Rattle.uhura_choice.specs.declared.prefix.Pick.{Pick}
 use Rattle.uhura_choice.specs.declared.prefix.Pick.TheVariants.{Alternative, Inactive}
 use Rattle.uhura_veto.specs.State.{State}
-use Rattle.uhura_veto.specs.Vetoes.{IsItemOf, HasName, veto_name, veto_names}
-use Rattle.uhura_line.specs.declared.command.Command.{Command}
+use Rattle.uhura_veto.specs.Vetoes.{IsItemOf, veto_name, veto_names}
 use Rattle.uhura_line.specs.Reads.{name_of, are_names}
 use Rattle.uhura_command.specs.Script.{name_at, item_name, literal_names, commands_of}
 use Rattle.uhura_command.specs.State.{IsSoundState}
 use Rattle.uhura_command.proofs.CommandLines.{FitsLine}
 use Rattle.uhura_command.proofs.ScriptReplays.{state_commands_fit}
 use Rattle.uhura_command.proofs.PlanNames.{place_named, guard_named}
-use Rattle.uhura_item.specs.declared.item.Item.{Item}
 use Rattle.uhura_item.specs.declared.item.Item.TheVariants as item
 use Rattle.uhura_item.specs.Item.{IsBetween, IsEdgeName, IsItem}
 use Rattle.uhura_cert.specs.declared.document.Proposal.{Proposal}
@@ -39,7 +36,7 @@ use Rattle.uhura_cert.specs.declared.document.Reason.TheVariants as reason
 use Rattle.uhura_cert.specs.declared.document.Leaf.{Leaf}
 use Rattle.uhura_cert.specs.Order.{place_in, IsEdgeOf}
 use Rattle.uhura_cert.proofs.Writing.{at_each, length-picked}
-use Rattle.uhura_cert.specs.Document.{Document, FitsPlan, AreEdgeUnits, AreEdges, IsShared, AreShared, IsReasonOf, IsPickOf, ArePicks, IsLeaf, HasFittingParts, IsDocument}
+use Rattle.uhura_cert.specs.Document.{Document, FitsPlan, AreEdgeUnits, AreEdges, IsShared, IsReasonOf, IsPickOf, ArePicks, IsLeaf, HasFittingParts}
 use Rattle.uhura_cert.specs.Items.{pick_item, relax_item, time_item, to_cost, to_picks, to_sides, to_times, proposal_items, answer_items, edge_name, units_item, edge_item, shared_items, reason_items, picked_name, picked_names, leaf_items, to_version, to_script, to_question, to_answer, to_shared, to_leaves, items_of}
 
 -- ---- all of a list

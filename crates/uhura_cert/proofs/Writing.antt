@@ -11,7 +11,7 @@ use Rattle.uhura_line.proofs.Spacing.{line_of-joined}
 use Rattle.uhura_command.specs.Script.{command_line}
 use Rattle.uhura_item.specs.declared.item.Item.{Item}
 use Rattle.uhura_item.specs.declared.item.Item.TheVariants as item
-use Rattle.uhura_item.specs.Item.{item_line, IsItem}
+use Rattle.uhura_item.specs.Item.{item_line}
 use Rattle.uhura_plan.specs.declared.choice.Choice.{Choice}
 use Rattle.uhura_choice.specs.declared.prefix.Pick.{Pick}
 use Rattle.uhura_cert.specs.Document.{IsPickOf, ArePicks}
@@ -25,10 +25,10 @@ line_more f xs i x old text new within is before written =
     let front = take i xs in
     let taken : take (i + 1) xs ≡ front ++ x ∷ [] = take_more xs i x within ∙ ap (λ y. front ++ y ∷ []) (sym is) in
     let whole : flat_map item_line (map f (take (i + 1) xs)) ≡ flat_map item_line (map f front) ++ item_line (f x) =
-        ap (λ ys. flat_map item_line (map f ys)) taken
-        ∙ ap (flat_map item_line) (map-append f front (x ∷ []))
-        ∙ flat_map-append item_line (map f front) (f x ∷ [])
-        ∙ ap (λ line. flat_map item_line (map f front) ++ line) (append-nil (item_line (f x))) in
+    ap (λ ys. flat_map item_line (map f ys)) taken
+    ∙ ap (flat_map item_line) (map-append f front (x ∷ []))
+    ∙ flat_map-append item_line (map f front) (f x ∷ [])
+    ∙ ap (λ line. flat_map item_line (map f front) ++ line) (append-nil (item_line (f x))) in
     written ∙ ap (λ t. t ++ item_line (f x)) before ∙ append_assoc old (flat_map item_line (map f front)) (item_line (f x)) ∙ ap (λ t. old ++ t) (sym whole)
 
 -- several lines more of things that have several lines each
@@ -39,9 +39,9 @@ lines_more f xs i x old text new within is before written =
     let front = take i xs in
     let taken : take (i + 1) xs ≡ front ++ x ∷ [] = take_more xs i x within ∙ ap (λ y. front ++ y ∷ []) (sym is) in
     let whole : flat_map item_line (flat_map f (take (i + 1) xs)) ≡ flat_map item_line (flat_map f front) ++ flat_map item_line (f x) =
-        ap (λ ys. flat_map item_line (flat_map f ys)) taken
-        ∙ ap (flat_map item_line) (flat_map-append f front (x ∷ []) ∙ ap (λ ys. flat_map f front ++ ys) (append-nil (f x)))
-        ∙ flat_map-append item_line (flat_map f front) (f x) in
+    ap (λ ys. flat_map item_line (flat_map f ys)) taken
+    ∙ ap (flat_map item_line) (flat_map-append f front (x ∷ []) ∙ ap (λ ys. flat_map f front ++ ys) (append-nil (f x)))
+    ∙ flat_map-append item_line (flat_map f front) (f x) in
     written ∙ ap (λ t. t ++ flat_map item_line (f x)) before ∙ append_assoc old (flat_map item_line (flat_map f front)) (flat_map item_line (f x)) ∙ ap (λ t. old ++ t) (sym whole)
 
 -- what holds of each by recursion holds at each place
@@ -102,7 +102,6 @@ pub length-picked : (choices : List Choice) (picks : List Pick) → ArePicks cho
 length-picked choices [] are = refl
 length-picked [] (p ∷ picks) are = absurd are
 length-picked (c ∷ choices) (p ∷ picks) are = omega (arith, length-picked choices picks are.1)
-
 
 -- ---- parts behind one another
 

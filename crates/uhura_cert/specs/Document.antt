@@ -1,5 +1,5 @@
 -- A document, and when its parts fit one another, so that it has a text.
-use Rattle.std.specs.Prelude.{◌≡◌, ℕ, ◌+◌, ◌<◌, ◌≤◌, List, [], ◌∷◌, length, Option, Some, IfSome, slice_get}
+use Rattle.std.specs.Prelude.{◌≡◌, ℕ, ◌<◌, ◌≤◌, List, [], ◌∷◌, length, Option, Some, IfSome, slice_get}
 use Rattle.std.specs.List.{AllByRecursion}
 use Rattle.uhura_plan.specs.declared.key.EdgeKey.{EdgeKey}
 use Rattle.uhura_plan.specs.declared.key.SideKey.{SideKey}

@@ -7,8 +7,8 @@ ghost use Rattle.uhura_cert.specs.Order.{place_in};
 ghost use Rattle.uhura_cert.specs.Items.{proposal_items, answer_items, units_item, edge_item, shared_items, text_of};
 ghost use Rattle.uhura_cert.specs.Text.{TextOf};
 
-use crate::lists::{put_edges, put_picks, put_sides, put_times, put_units};
 use crate::leaf_lines::{put_entries, put_leaves};
+use crate::lists::{put_edges, put_picks, put_sides, put_times, put_units};
 use crate::{Document, Leaf, Proposal, Shared};
 use std::alloc::{AllocError, Global};
 use uhura_command::State;
@@ -16,11 +16,7 @@ use uhura_item::{Item, put_item};
 use uhura_plan::{EdgeKey, Plan};
 
 /// Appends the lines of a proposal over a plan.
-fn put_proposal_lines(
-    out: &mut Vec<u8>,
-    plan: &Plan,
-    proposal: &Proposal,
-) -> Result<(), AllocError>
+fn put_proposal_lines(out: &mut Vec<u8>, plan: &Plan, proposal: &Proposal) -> Result<(), AllocError>
     requires { IsProposal plan.now proposal.now }
     ensures { IfOk result (λ _. out.new.items ≡
         out.old.items ++ flat_map item_line (proposal_items plan.now proposal.now)) }
@@ -53,11 +49,7 @@ pub fn write_proposal(
 }
 
 /// Appends the lines of an answer.
-fn put_answer(
-    out: &mut Vec<u8>,
-    plan: &Plan,
-    answer: &Option<Proposal>,
-) -> Result<(), AllocError>
+fn put_answer(out: &mut Vec<u8>, plan: &Plan, answer: &Option<Proposal>) -> Result<(), AllocError>
     requires { IfSome answer.now (IsProposal plan.now) }
     ensures { IfOk result (λ _. out.new.items ≡
         out.old.items ++ flat_map item_line (answer_items plan.now answer.now)) }

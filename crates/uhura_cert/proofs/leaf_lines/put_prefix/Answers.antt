@@ -1,7 +1,6 @@
-use Rattle.std.proofs.Common.{◌≡◌, ◌++◌, List, ℕ, Option, sym, ap, subst, ◌∙◌}
+use Rattle.std.proofs.Common.{List, ℕ, Option, sym, subst}
 use Rattle.uhura_item.specs.declared.item.Item.TheVariants as item
-use Rattle.uhura_item.specs.Item.{item_line, IsItem}
-use Rattle.uhura_cert.specs.Items.{picked_names}
+use Rattle.uhura_item.specs.Item.{IsItem}
 use Rattle.uhura_cert.proofs.ItemsFit.{few_picks, picks_writable}
 use Rattle.uhura_cert.proofs.leaf_lines.put_prefix.Goals as goal
 

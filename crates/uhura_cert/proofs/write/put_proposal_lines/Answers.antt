@@ -1,4 +1,4 @@
-use Rattle.std.proofs.Common.{◌≡◌, ◌++◌, ◌∷◌, [], ℕ, List, map, flat_map, All, sym, ap, subst, ◌∙◌}
+use Rattle.std.proofs.Common.{◌≡◌, ◌++◌, ℕ, List, map, flat_map, All, sym, ap, subst, ◌∙◌}
 use Rattle.std.specs.List.{zip}
 use Rattle.uhura_plan.specs.declared.guard.Literal.{Literal}
 use Rattle.uhura_plan.specs.declared.key.SideKey.{SideKey}
@@ -32,12 +32,12 @@ returns c =
     let old : List ℕ = c.args.out.now.items in
     let cost : c.put_item.new.out.items ≡ old ++ flat_map item_line (to_cost p) = line_first old c.put_item.new.out.items (item.Proposal p.cost) c.in_ok-put_item.ensures.ok in
     let picks : c.put_picks.new.out.items ≡ old ++ flat_map item_line (to_picks plan p) =
-        lines_behind old c.put_item.new.out.items c.put_picks.new.out.items (to_cost p) (map (pick_item plan) p.picks) cost
-        (c.in_ok-put_picks.ensures ∙ ap (λ (ls : List Literal). c.put_item.new.out.items ++ flat_map item_line (map (pick_item plan) ls)) c.as_slice.ensures) in
+    lines_behind old c.put_item.new.out.items c.put_picks.new.out.items (to_cost p) (map (pick_item plan) p.picks) cost
+    (c.in_ok-put_picks.ensures ∙ ap (λ (ls : List Literal). c.put_item.new.out.items ++ flat_map item_line (map (pick_item plan) ls)) c.as_slice.ensures) in
     let sides : c.put_sides.new.out.items ≡ old ++ flat_map item_line (to_sides plan p) =
-        lines_behind old c.put_picks.new.out.items c.put_sides.new.out.items (to_picks plan p) (map (relax_item plan) p.loosening) picks
-        (c.in_ok-put_sides.ensures ∙ ap (λ (ss : List (SideKey × ℕ)). c.put_picks.new.out.items ++ flat_map item_line (map (relax_item plan) ss)) c.pairs.ensures.pairs) in
+    lines_behind old c.put_picks.new.out.items c.put_sides.new.out.items (to_picks plan p) (map (relax_item plan) p.loosening) picks
+    (c.in_ok-put_sides.ensures ∙ ap (λ (ss : List (SideKey × ℕ)). c.put_picks.new.out.items ++ flat_map item_line (map (relax_item plan) ss)) c.pairs.ensures.pairs) in
     let times : c.put_times.new.out.items ≡ old ++ flat_map item_line (to_times plan p) =
-        lines_behind old c.put_sides.new.out.items c.put_times.new.out.items (to_sides plan p) (map time_item (zip plan.events p.times)) sides
-        (c.in_ok-put_times.ensures ∙ ap (λ (ts : List ℕ). c.put_sides.new.out.items ++ flat_map item_line (map time_item (zip plan.events ts))) c.as_slice-2.ensures) in
+    lines_behind old c.put_sides.new.out.items c.put_times.new.out.items (to_sides plan p) (map time_item (zip plan.events p.times)) sides
+    (c.in_ok-put_times.ensures ∙ ap (λ (ts : List ℕ). c.put_sides.new.out.items ++ flat_map item_line (map time_item (zip plan.events ts))) c.as_slice-2.ensures) in
     line_behind old c.put_times.new.out.items c.put_item-2.new.out.items (to_times plan p) item.End times c.in_ok-put_item-2.ensures.ok
