@@ -7,3 +7,4 @@ pub mod ItemsFit
 pub mod Writing
 pub mod Ordered
 pub mod FoundNames
+pub mod ReadBack
