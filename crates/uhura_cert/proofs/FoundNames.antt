@@ -23,6 +23,7 @@ use Rattle.uhura_plan.specs.Sound.{AreDistinct, IsSound, IsLiteralAmong}
 use Rattle.uhura_plan.proofs.Finds.{place_within, spelled, IsSpelled, literal_among}
 use Rattle.uhura_choice.specs.declared.prefix.Pick.{Pick}
 use Rattle.uhura_choice.specs.declared.prefix.Pick.TheVariants.{Alternative, Inactive}
+use Rattle.uhura_veto.specs.declared.item.ItemKind.TheVariants.{Require}
 use Rattle.uhura_veto.specs.declared.veto.Veto.{Veto}
 use Rattle.uhura_veto.specs.Find.{veto_named, item_named}
 use Rattle.uhura_veto.specs.Vetoes.{IsItemOf, veto_name, veto_names}
@@ -97,13 +98,16 @@ literal_forth plan l sound among =
 -- ---- requirements in slots that are places
 
 -- slots are places from a first one on
-CountsFrom : ℕ → List Requirement → Type 0
+abbrev CountsFrom : ℕ → List Requirement → Type 0
 CountsFrom first rs = (i : ℕ) (r : Requirement) → slice_get rs i ≡ Some r → r.slot ≡ first + i
 
 counts_behind : (first : ℕ) (s : Requirement) (rs : List Requirement) → CountsFrom first (s ∷ rs) → CountsFrom (first + 1) rs
 counts_behind first s rs counts = λ i r at. omega (arith, counts (suc i) r at)
 
-found_in_slot : (first : ℕ) (rs : List Requirement) (i slot : ℕ) (r : Requirement) → CountsFrom first rs → slice_get rs i ≡ Some r → slot ≡ first + i → find (λ r. r.slot == slot) rs ≡ Some r
+counts_all : (plan : Lists) → HasPlacesAsSlots plan → CountsFrom 0 plan.requirements
+counts_all plan slots = λ i r at. omega (arith, slots i r at)
+
+pub found_in_slot : (first : ℕ) (rs : List Requirement) (i slot : ℕ) (r : Requirement) → CountsFrom first rs → slice_get rs i ≡ Some r → slot ≡ first + i → find (λ r. r.slot == slot) rs ≡ Some r
 found_in_slot first [] i slot r counts at is = let no : ⊥ = cc in absurd no
 found_in_slot first (s ∷ rs) zero slot r counts at is =
     let here : s.slot ≡ slot = omega (arith, counts zero s refl, is) in
@@ -115,16 +119,171 @@ found_in_slot first (s ∷ rs) (suc i) slot r counts at is =
     rw test (found_in_slot (first + 1) rs i slot r (counts_behind first s rs counts) at (omega arith))
 
 -- the requirement that is found in a slot stands at that place
-stands_in_slot : (first : ℕ) (rs : List Requirement) (slot : ℕ) → CountsFrom first rs → IsSome (find (λ r. r.slot == slot) rs)
-    → (i : ℕ) × (r : Requirement) × (slice_get rs i ≡ Some r) × (slot ≡ first + i)
+record StandsIn (first : ℕ) (rs : List Requirement) (slot : ℕ) : Type 0 where
+  place : ℕ
+  requirement : Requirement
+  at : slice_get rs place ≡ Some requirement
+  is : slot ≡ first + place
+
+stands_in_slot : (first : ℕ) (rs : List Requirement) (slot : ℕ) → CountsFrom first rs → IsSome (find (λ r. r.slot == slot) rs) → StandsIn first rs slot
 stands_in_slot first [] slot counts there = let no : ⊥ = cc in absurd no
-stands_in_slot first (s ∷ rs) slot counts there = by (s.slot == slot) refl there
+stands_in_slot first (s ∷ rs) slot counts there = by (s.slot == slot) refl (stands_in_slot (first + 1) rs slot (counts_behind first s rs counts)) there
   where
-    by : (test : Bool) → (s.slot == slot) ≡ test → IsSome (if test then Some s else find (λ r. r.slot == slot) rs)
-        → (i : ℕ) × (r : Requirement) × (slice_get (s ∷ rs) i ≡ Some r) × (slot ≡ first + i)
-    by true is there =
-        let same : s.slot ≡ slot = (Decides-eqb s.slot slot).0 is in
-        (zero, s, refl, omega (arith, counts zero s refl, same))
-    by false is there =
-        let more = stands_in_slot (first + 1) rs slot (counts_behind first s rs counts) there in
-        (suc more.0, more.1.0, more.1.1.0, omega (arith, more.1.1.1))
+    by : (test : Bool) → (s.slot == slot) ≡ test → (IsSome (find (λ r. r.slot == slot) rs) → StandsIn (first + 1) rs slot)
+        → IsSome (if test then Some s else find (λ r. r.slot == slot) rs) → StandsIn first (s ∷ rs) slot
+    by true test rest there =
+        let same : s.slot ≡ slot = (Decides-eqb s.slot slot).0 test in
+        record { place = zero; requirement = s; at = refl; is = omega (arith, counts zero s refl, same) }
+    by false test rest there =
+        let more = rest there in
+        record { place = suc more.place; requirement = more.requirement; at = more.at; is = omega (arith, more.is) }
+
+-- ---- requirements and durations
+
+required_back : (plan : Lists) (name : List ℕ) (k : ℕ) (r : Option Requirement) (thing : Thing) → HasPlacesAsSlots plan → requirement_named plan name ≡ Some k
+    → slice_get plan.requirements k ≡ r → option_map (λ r. InSlot r.slot) r ≡ Some thing → item_name plan thing ≡ named.Require name
+required_back plan name k None thing slots at there is = let no : ⊥ = cc in absurd no
+required_back plan name k (Some r) thing slots at there is =
+    let same : thing ≡ InSlot r.slot = sym (same_Some (InSlot r.slot) thing is) in
+    let found : find (λ q. q.slot == r.slot) plan.requirements ≡ Some r = found_in_slot 0 plan.requirements k r.slot r (counts_all plan slots) there (omega (arith, slots k r there)) in
+    let here : name_at (requirement_names plan.requirements) k ≡ r.name =
+    ap (λ o. option_map_or (λ n. n) o []) (slice_get-map (λ r. r.name) plan.requirements k ∙ ap (option_map (λ r. r.name)) there) in
+    ap (item_name plan) same
+    ∙ (ap (λ o. named.Require (option_map_or (λ r. r.name) o [])) found
+    ∙ ap (λ n. named.Require n) (sym here ∙ named_at (requirement_names plan.requirements) name k at))
+
+-- what is found by a name has it
+pub item_back : (plan : Lists) (i : ItemName) (thing : Thing) → HasPlacesAsSlots plan → item_named plan (kind_named i) (name_of i) ≡ Some thing → item_name plan thing ≡ i
+item_back plan (named.Require name) thing slots found = by (requirement_named plan name) refl found
+  where
+    by : (k : Option ℕ) → requirement_named plan name ≡ k → option_map (λ r. InSlot r.slot) (option_and_then (λ place. slice_get plan.requirements place) k) ≡ Some thing
+        → item_name plan thing ≡ named.Require name
+    by None at is = let no : ⊥ = cc in absurd no
+    by (Some k) at is = required_back plan name k (slice_get plan.requirements k) thing slots at refl is
+item_back plan (named.Uncertain name) thing slots found = by (uncertain_named plan name) refl found
+  where
+    by : (d : Option ℕ) → uncertain_named plan name ≡ d → option_map (λ place. AtPlace place) d ≡ Some thing → item_name plan thing ≡ named.Uncertain name
+    by None at is = let no : ⊥ = cc in absurd no
+    by (Some d) at is =
+        let same : thing ≡ AtPlace d = sym (same_Some (AtPlace d) thing is) in
+        ap (item_name plan) same ∙ ap (λ n. named.Uncertain n) (named_at (uncertain_names plan.uncertains) name d at)
+
+-- what is in the plan is found by its name
+pub item_forth : (plan : Lists) (thing : Thing) → IsSound plan → HasPlacesAsSlots plan → IsItemOf plan thing
+    → item_named plan (kind_named (item_name plan thing)) (name_of (item_name plan thing)) ≡ Some thing
+item_forth plan (InSlot slot) sound slots there =
+    let s = stands_in_slot 0 plan.requirements slot (counts_all plan slots) there in
+    let found : find (λ r. r.slot == slot) plan.requirements ≡ Some s.requirement = found_in_slot 0 plan.requirements s.place slot s.requirement (counts_all plan slots) s.at s.is in
+    let shown : option_map_or (λ r. r.name) (requirement_in plan slot) [] ≡ s.requirement.name = ap (λ o. option_map_or (λ r. r.name) o []) found in
+    let is_there : requirement_named plan s.requirement.name ≡ Some s.place =
+    found_at (requirement_names plan.requirements) sound.distinct.requirements s.place s.requirement.name
+    (slice_get-map (λ r. r.name) plan.requirements s.place ∙ ap (option_map (λ r. r.name)) s.at) in
+    let in_its_slot : s.requirement.slot ≡ slot = omega (arith, slots s.place s.requirement s.at, s.is) in
+    ap (item_named plan Require) shown
+    ∙ (ap (λ o. option_map (λ r. InSlot r.slot) (option_and_then (λ place. slice_get plan.requirements place) o)) is_there
+    ∙ (ap (option_map (λ r. InSlot r.slot)) s.at
+    ∙ ap (λ n. Some (InSlot n)) in_its_slot))
+item_forth plan (AtPlace d) sound slots there =
+    ap (option_map (λ place. AtPlace place)) (place_found (uncertain_names plan.uncertains) d sound.distinct.uncertains (omega (arith, there, length-map plan.uncertains (λ u. u.name))))
+
+-- ---- edges
+
+-- an edge that is there, of this name
+pub record HasEdgeName (plan : Lists) (name : EdgeName) (e : EdgeKey) : Type 0 where
+  pub there : IsEdgeOf plan e
+  pub is : edge_name plan e ≡ name
+
+side_edge_is : (plan : Lists) (k : EdgeKind) (i : ItemName) (side : Side) (thing : Thing) → IsItemOf plan thing → item_name plan thing ≡ i → HasEdgeName plan (OfSide i side k) (side_edge k side thing)
+side_edge_is plan kind.Loose i side thing there is = record { there = there; is = ap (λ i. OfSide i side kind.Loose) is }
+side_edge_is plan kind.Steep i side thing there is = record { there = there; is = ap (λ i. OfSide i side kind.Steep) is }
+side_edge_is plan kind.Firm i side thing there is = record { there = there; is = ap (λ i. OfSide i side kind.Firm) is }
+
+pub edge_back : (plan : Lists) (name : EdgeName) (e : EdgeKey) → HasPlacesAsSlots plan → edge_named plan name ≡ Some e → HasEdgeName plan name e
+edge_back plan (OfSide i side k) e slots found = by (item_named plan (kind_named i) (name_of i)) refl found
+  where
+    by : (o : Option Thing) → item_named plan (kind_named i) (name_of i) ≡ o → option_map (side_edge k side) o ≡ Some e → HasEdgeName plan (OfSide i side k) e
+    by None at is = let no : ⊥ = cc in absurd no
+    by (Some thing) at is =
+        subst (HasEdgeName plan (OfSide i side k)) (same_Some (side_edge k side thing) e is)
+        (side_edge_is plan k i side thing (IsItemOf-named plan (kind_named i) (name_of i) thing at) (item_back plan i thing slots at))
+edge_back plan (OfOrder name) e slots found = by (uncertain_named plan name) refl found
+  where
+    by : (d : Option ℕ) → uncertain_named plan name ≡ d → option_map (λ d. key.Order d) d ≡ Some e → HasEdgeName plan (OfOrder name) e
+    by None at is = let no : ⊥ = cc in absurd no
+    by (Some d) at is =
+        subst (HasEdgeName plan (OfOrder name)) (same_Some (key.Order d) e is)
+        (record {
+          there = omega (arith, place_within (uncertain_names plan.uncertains) name d at, length-map plan.uncertains (λ u. u.name));
+          is = ap (λ n. OfOrder n) (named_at (uncertain_names plan.uncertains) name d at);
+        })
+
+pub edge_forth : (plan : Lists) (e : EdgeKey) → IsSound plan → HasPlacesAsSlots plan → IsEdgeOf plan e → edge_named plan (edge_name plan e) ≡ Some e
+edge_forth plan (key.Loose k) sound slots there = ap (option_map (side_edge kind.Loose k.side)) (item_forth plan k.item sound slots there)
+edge_forth plan (key.Steep k) sound slots there = ap (option_map (side_edge kind.Steep k.side)) (item_forth plan k.item sound slots there)
+edge_forth plan (key.Firm k) sound slots there = ap (option_map (side_edge kind.Firm k.side)) (item_forth plan k.item sound slots there)
+edge_forth plan (key.Order d) sound slots there =
+    ap (option_map (λ d. key.Order d)) (place_found (uncertain_names plan.uncertains) d sound.distinct.uncertains (omega (arith, there, length-map plan.uncertains (λ u. u.name))))
+
+-- ---- vetoes
+
+pub veto_within : (vetoes : List Veto) (name : List ℕ) (k : ℕ) → veto_named vetoes name ≡ Some k → k < length vetoes
+veto_within vetoes name k found = omega (arith, place_within (veto_names vetoes) name k found, length-map vetoes veto_name)
+
+pub veto_forth : (vetoes : List Veto) (k : ℕ) → AreDistinct (veto_names vetoes) → k < length vetoes → veto_named vetoes (name_at (veto_names vetoes) k) ≡ Some k
+veto_forth vetoes k distinct within = place_found (veto_names vetoes) k distinct (omega (arith, within, length-map vetoes veto_name))
+
+-- ---- prefixes
+
+-- picks that are there, of these names
+pub record HasPickNames (choices : List Choice) (names : List (Option (List ℕ))) (prefix : List Pick) : Type 0 where
+  pub are : ArePicks choices prefix
+  pub names_are : picked_names choices prefix ≡ names
+
+record HasPickName (c : Choice) (name : Option (List ℕ)) (pick : Pick) : Type 0 where
+  is : IsPickOf c pick
+  name_is : picked_name c pick ≡ name
+
+pick_back : (c : Choice) (name : Option (List ℕ)) (pick : Pick) → IsPickNamed c name pick → HasPickName c name pick
+pick_back c None pick is = subst (HasPickName c None) (sym is) (record { is = tt; name_is = refl })
+pick_back c (Some name) Inactive is = absurd is
+pick_back c (Some name) (Alternative a) is = record {
+  is = omega (arith, place_within (alternative_names c) name a is, length-map c.alternatives (λ a. a.0));
+  name_is = ap (λ n. Some n) (named_at (alternative_names c) name a is);
+}
+
+pub picks_back : (choices : List Choice) (names : List (Option (List ℕ))) (prefix : List Pick) → ArePicksNamed choices names prefix → HasPickNames choices names prefix
+picks_back choices [] prefix are = subst (HasPickNames choices []) (sym are) (record { are = tt; names_are = refl })
+picks_back [] (name ∷ names) prefix are = absurd are
+picks_back (c ∷ choices) (name ∷ names) [] are = absurd are
+picks_back (c ∷ choices) (name ∷ names) (pick ∷ prefix) are =
+    let here = pick_back c name pick are.0 in
+    let rest = picks_back choices names prefix are.1 in
+    record { are = (here.is, rest.are); names_are = λ i. here.name_is i ∷ rest.names_are i }
+
+pick_forth : (c : Choice) (pick : Pick) → AreDistinct (alternative_names c) → IsPickOf c pick → IsPickNamed c (picked_name c pick) pick
+pick_forth c (Alternative a) distinct is = place_found (alternative_names c) a distinct (omega (arith, is, length-map c.alternatives (λ a. a.0)))
+pick_forth c Inactive distinct is = refl
+
+pub picks_forth : (choices : List Choice) (prefix : List Pick) → ((place : ℕ) (c : Choice) → slice_get choices place ≡ Some c → AreDistinct (alternative_names c)) → ArePicks choices prefix
+    → ArePicksNamed choices (picked_names choices prefix) prefix
+picks_forth choices [] distinct are = refl
+picks_forth [] (pick ∷ prefix) distinct are = absurd are
+picks_forth (c ∷ choices) (pick ∷ prefix) distinct are =
+    (pick_forth c pick (distinct zero c refl) are.0, picks_forth choices prefix (λ place d at. distinct (suc place) d at) are.1)
+
+pick_once : (c : Choice) (name : Option (List ℕ)) (p q : Pick) → IsPickNamed c name p → IsPickNamed c name q → p ≡ q
+pick_once c None p q first second = first ∙ sym second
+pick_once c (Some name) Inactive q first second = absurd first
+pick_once c (Some name) (Alternative a) Inactive first second = absurd second
+pick_once c (Some name) (Alternative a) (Alternative b) first second = ap (λ a. Alternative a) (same_Some a b (sym first ∙ second))
+
+-- names are of one prefix
+pub picks_once : (choices : List Choice) (names : List (Option (List ℕ))) (p q : List Pick) → ArePicksNamed choices names p → ArePicksNamed choices names q → p ≡ q
+picks_once choices [] p q first second = first ∙ sym second
+picks_once [] (name ∷ names) p q first second = absurd first
+picks_once (c ∷ choices) (name ∷ names) [] q first second = absurd first
+picks_once (c ∷ choices) (name ∷ names) (x ∷ p) [] first second = absurd second
+picks_once (c ∷ choices) (name ∷ names) (x ∷ p) (y ∷ q) first second =
+    let here = pick_once c name x y first.0 second.0 in
+    let rest = picks_once choices names p q first.1 second.1 in
+    λ i. here i ∷ rest i

@@ -8,3 +8,5 @@ pub mod Writing
 pub mod Ordered
 pub mod FoundNames
 pub mod ReadBack
+pub mod MachineSteps
+pub mod MachineOnce

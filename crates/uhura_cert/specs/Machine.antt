@@ -157,10 +157,11 @@ later state (command.Deny name literals) = 0
 later state (command.Cap name thing side units) = 0
 later state c = 1
 
--- a command of the script makes the next state
+-- a command of the script makes the next state, which is sound as each state is
 pub record Makes (state : State) (c : Command) (next : State) : Type 0 where
   pub in_order : later state c ≡ 0
   pub applies : Applies state c next
+  pub sound : IsSoundState next
 
 -- a pick of these names comes next
 pub record IsNextPick (plan : Lists) (literals : List Literal) (choice alternative : List ℕ)

@@ -1,7 +1,0 @@
-use Rattle.std.proofs.Common.{refl}
-use Rattle.uhura_cert.proofs.Ordered.{runs_each}
-use Rattle.uhura_cert.proofs.FoundNames.{named_at}
-use Rattle.uhura_cert.proofs.laws.documents_are_taken_line_by_line.Goals as goal
-
-pub returns : goal.returns
-returns c = λ n. refl
