@@ -10,3 +10,6 @@ pub mod FoundNames
 pub mod ReadBack
 pub mod MachineSteps
 pub mod MachineOnce
+pub mod MachineCompletes
+pub mod MachineRuns
+pub mod MachineScript

@@ -58,17 +58,17 @@ closed front part xs x =
     ∙ sym (append_assoc front (flat_map part xs) (part x))
 
 -- two lines, one after the other
-two_lines : (front : List Item) (i j : Item) → front ++ i ∷ j ∷ [] ≡ (front ++ i ∷ []) ++ j ∷ []
+pub two_lines : (front : List Item) (i j : Item) → front ++ i ∷ j ∷ [] ≡ (front ++ i ∷ []) ++ j ∷ []
 two_lines front i j = sym (append_assoc front (i ∷ []) (j ∷ []))
 
 abbrev no_times : List ℕ
 no_times = []
 
-zip-nil : (names : List (List ℕ)) → zip names no_times ≡ []
+pub zip-nil : (names : List (List ℕ)) → zip names no_times ≡ []
 zip-nil [] = refl
 zip-nil (name ∷ names) = refl
 
-zip_next : (names : List (List ℕ)) (times : List ℕ) (name : List ℕ) (time : ℕ) → slice_get names (length times) ≡ Some name
+pub zip_next : (names : List (List ℕ)) (times : List ℕ) (name : List ℕ) (time : ℕ) → slice_get names (length times) ≡ Some name
     → zip names (times ++ time ∷ []) ≡ zip names times ++ (name, time) ∷ []
 zip_next [] times name time there = let no : ⊥ = cc in absurd no
 zip_next (n ∷ names) [] name time there =
@@ -78,7 +78,7 @@ zip_next (n ∷ names) (t ∷ times) name time there = ap (λ l. (n, t) ∷ l) (
 
 -- ---- leaves and entries
 
-plain_leaf : (d : Document) (leaf : Leaf) → IsPlain d → IsLeaf in_place d.version d.state (length d.shared) leaf → IsPlain (with_leaf d leaf)
+pub plain_leaf : (d : Document) (leaf : Leaf) → IsPlain d → IsLeaf in_place d.version d.state (length d.shared) leaf → IsPlain (with_leaf d leaf)
 plain_leaf d leaf plain is = record {
   state = plain.state;
   slots = plain.slots;
@@ -90,10 +90,10 @@ plain_leaf d leaf plain is = record {
   };
 }
 
-leaf_closed : (d : Document) (leaf : Leaf) → to_leaves (with_leaf d leaf) ≡ to_leaves d ++ leaf_items d.state leaf
+pub leaf_closed : (d : Document) (leaf : Leaf) → to_leaves (with_leaf d leaf) ≡ to_leaves d ++ leaf_items d.state leaf
 leaf_closed d leaf = closed (to_shared d) (leaf_items d.state) d.leaves leaf
 
-plain_entry : (d : Document) (entry : Shared) → IsPlainFront d → d.version ≡ 2 → IsShared in_place d.state.plan entry → IsPlainFront (with_entry d entry)
+pub plain_entry : (d : Document) (entry : Shared) → IsPlainFront d → d.version ≡ 2 → IsShared in_place d.state.plan entry → IsPlainFront (with_entry d entry)
 plain_entry d entry front two is = record {
   plain = record {
     state = front.plain.state;
@@ -108,10 +108,10 @@ plain_entry d entry front two is = record {
   no_leaves = front.no_leaves;
 }
 
-entry_closed : (d : Document) (entry : Shared) → to_shared (with_entry d entry) ≡ to_shared d ++ shared_items d.state.plan entry
+pub entry_closed : (d : Document) (entry : Shared) → to_shared (with_entry d entry) ≡ to_shared d ++ shared_items d.state.plan entry
 entry_closed d entry = closed (to_answer d) (shared_items d.state.plan) d.shared entry
 
-leafless : (d : Document) → d.leaves ≡ [] → to_leaves d ≡ to_shared d
+pub leafless : (d : Document) → d.leaves ≡ [] → to_leaves d ≡ to_shared d
 leafless d none = ap (λ ls. to_shared d ++ flat_map (leaf_items d.state) ls) none ∙ append-nil (to_shared d)
 
 pub from_leaves : (d : Document) (i : Item) (next : Spot) → IsPlain d → FromLeaves d i next → Follows (to_leaves d) i next
@@ -122,7 +122,7 @@ from_leaves d (item.Leaf names) next plain step =
 from_leaves d item.End next plain step = subst (Follows (to_leaves d) item.End) (sym step) (record { good = plain; lines = refl })
 from_leaves d i next plain step = absurd step
 
-no_edges : (plan : Lists) → AreEdgeUnits in_place plan []
+pub no_edges : (plan : Lists) → AreEdgeUnits in_place plan []
 no_edges plan = record { among = tt; units = tt; in_order = tt }
 
 pub from_entries : (d : Document) (i : Item) (next : Spot) → IsPlainFront d → FromEntries d i next → Follows (to_shared d) i next
@@ -169,7 +169,7 @@ from_entry_walk d edges i next front two are step =
     (from_entries (with_entry d (shared.Stuck edges)) i next (plain_entry d (shared.Stuck edges) front two are) step)
 
 -- the lines of a leaf that is closed, whose reason is one line
-one_line_leaf : (d : Document) (prefix : List Pick) (why : Reason) (i : Item) → leaf_items d.state (leaf_of prefix why) ≡ item.Leaf (picked_names d.state.plan.choices prefix) ∷ i ∷ []
+pub one_line_leaf : (d : Document) (prefix : List Pick) (why : Reason) (i : Item) → leaf_items d.state (leaf_of prefix why) ≡ item.Leaf (picked_names d.state.plan.choices prefix) ∷ i ∷ []
     → to_leaves (with_leaf d (leaf_of prefix why)) ≡ shown (spot.leaf_head d prefix) ++ i ∷ []
 one_line_leaf d prefix why i are =
     leaf_closed d (leaf_of prefix why) ∙ (ap (λ l. to_leaves d ++ l) are ∙ two_lines (to_leaves d) (item.Leaf (picked_names d.state.plan.choices prefix)) i)
@@ -230,7 +230,7 @@ from_leaf_walk d prefix edges i next fits good step =
 -- ---- the answer
 
 -- behind an answer nothing stands yet
-plain_answer : (version : ℕ) (state : State) (answer : Option Proposal) → IsBegun version state → IfSome answer (FitsPlan in_place state.plan) → IsPlainFront (answered version state answer)
+pub plain_answer : (version : ℕ) (state : State) (answer : Option Proposal) → IsBegun version state → IfSome answer (FitsPlan in_place state.plan) → IsPlainFront (answered version state answer)
 plain_answer version state answer begins fits = record {
   plain = record {
     state = begins.sound;
@@ -276,7 +276,7 @@ from_times version state p item.End next fits begins sofar step =
 from_times version state p i next fits begins sofar step = absurd step
 
 -- without times the sides are shown
-timeless : (version : ℕ) (state : State) (p : Proposal) → p.times ≡ [] → shown (spot.times version state p) ≡ to_question (begun version state) ++ to_sides state.plan p
+pub timeless : (version : ℕ) (state : State) (p : Proposal) → p.times ≡ [] → shown (spot.times version state p) ≡ to_question (begun version state) ++ to_sides state.plan p
 timeless version state p none =
     ap (λ l. to_question (begun version state) ++ (to_sides state.plan p ++ map time_item l)) (ap (zip state.plan.events) none ∙ zip-nil state.plan.events)
     ∙ ap (λ l. to_question (begun version state) ++ l) (append-nil (to_sides state.plan p))

@@ -1,3 +1,6 @@
+use Rattle.uhura_cert.proofs.MachineScript.{grows}
+use Rattle.uhura_cert.proofs.MachineCompletes.{completes_script}
+use Rattle.uhura_cert.proofs.MachineRuns.{runs_whole}
 use Rattle.uhura_cert.proofs.MachineOnce.{step_once}
 use Rattle.uhura_cert.proofs.MachineSteps.{from_question}
 use Rattle.std.proofs.Common.{refl}
