@@ -13,3 +13,5 @@ pub mod MachineOnce
 pub mod MachineCompletes
 pub mod MachineRuns
 pub mod MachineScript
+pub mod FirstParts
+pub mod ScriptRuns

@@ -16,7 +16,6 @@ use Rattle.uhura_plan.specs.Find.{place_of, find_event, literal_named}
 use Rattle.uhura_plan.specs.Lists.{Lists, end_names, alternative_names, slots}
 use Rattle.uhura_plan.specs.Sound.{IsSoundChoice, IsLiteralAmong, IsSound}
 use Rattle.uhura_plan.proofs.Building.{choice_within}
-use Rattle.uhura_plan.proofs.Choices.{slice_get-kept, slice_get-last}
 use Rattle.uhura_plan.proofs.Finds.{literal_among}
 use Rattle.uhura_veto.specs.declared.veto.Veto.{Veto}
 use Rattle.uhura_veto.specs.State.{State}
@@ -27,6 +26,7 @@ use Rattle.uhura_command.specs.Script.{name_at, event_name, literal_names, guard
 use Rattle.uhura_command.proofs.PlanNames.{literals_among_all}
 use Rattle.uhura_cert.specs.Document.{HasPlacesAsSlots}
 use Rattle.uhura_cert.specs.Machine.{Makes, IsBegun}
+use Rattle.uhura_cert.proofs.Ordered.{slice_get-kept, slice_get-last}
 use Rattle.uhura_cert.proofs.FoundNames.{named_at, literal_back, item_back}
 
 -- ---- events

@@ -1,5 +1,5 @@
 -- Lists in order that grow by one at their end, and lines for each thing of a list, one after the other.
-use Rattle.std.proofs.Common.{◌≡◌, ℕ, ◌+◌, ◌≤◌, List, [], ◌∷◌, ◌++◌, map, refl, sym, ap, ◌∙◌, append_assoc, append-nil}
+use Rattle.std.proofs.Common.{◌≡◌, ℕ, zero, suc, ◌+◌, ◌<◌, ◌≤◌, List, [], ◌∷◌, ◌++◌, length, map, Some, slice_get, refl, sym, ap, ◌∙◌, arith, append_assoc, append-nil}
 use Rattle.std.specs.List.{AllByRecursion}
 use Rattle.uhura_cert.specs.Order.{Rises}
 use Rattle.uhura_cert.specs.Machine.{end_of}
@@ -44,3 +44,14 @@ module _ {S L X : Type 0} (Step : S → L → S → Type 0) (at : List X → S) 
 
   pub runs_each : Run Step (at []) (map line whole) (at whole)
   runs_each = from_each [] whole refl
+
+-- the elements of a list stand at their places where one more is behind them
+pub slice_get-kept : {X : Type 0} (xs : List X) (y : X) (i : ℕ) → i < length xs → slice_get (xs ++ y ∷ []) i ≡ slice_get xs i
+slice_get-kept [] y i within = absurd (omega (arith, within))
+slice_get-kept (x ∷ xs) y zero within = refl
+slice_get-kept (x ∷ xs) y (suc i) within = slice_get-kept xs y i (omega (arith, within))
+
+-- the one behind stands where the others end
+pub slice_get-last : {X : Type 0} (xs : List X) (y : X) → slice_get (xs ++ y ∷ []) (length xs) ≡ Some y
+slice_get-last [] y = refl
+slice_get-last (x ∷ xs) y = slice_get-last xs y
