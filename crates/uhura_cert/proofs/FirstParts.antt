@@ -30,7 +30,7 @@ first_differ ns n differ = λ i j d before within same.
     differ i j d before (omega (arith, within, length-take n ns))
     (sym (get_or-take n ns i d (omega (arith, before, within, length-take n ns))) ∙ (same ∙ get_or-take n ns j d (omega (arith, within, length-take n ns))))
 
-none_of : {X : Type 0} (P : X → Type 0) → All P []
+pub none_of : {X : Type 0} (P : X → Type 0) → All P []
 none_of P = λ k d within. absurd (omega (arith, within))
 
 -- a requirement is sound over the same events, durations and choices

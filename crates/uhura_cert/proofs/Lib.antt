@@ -15,3 +15,4 @@ pub mod MachineRuns
 pub mod MachineScript
 pub mod FirstParts
 pub mod ScriptRuns
+pub mod MachineLaws

@@ -1,5 +1,5 @@
 -- From each good spot of the reader of documents some document goes on.
-use Rattle.std.proofs.Common.{◌≡◌, ℕ, zero, suc, ◌+◌, ◌<◌, ◌≤◌, List, [], ◌∷◌, ◌++◌, length, get_or, Option, Some, None, refl, sym, ap, subst, ◌∙◌, arith, append_assoc, append-nil, ⊎_elim}
+use Rattle.std.proofs.Common.{◌≡◌, ℕ, zero, suc, ◌+◌, ◌-◌, ◌<◌, ◌≤◌, List, [], ◌∷◌, ◌++◌, length, get_or, Option, Some, None, refl, sym, ap, subst, ◌∙◌, arith, append_assoc, append-nil, ⊎_elim}
 use Rattle.std.proofs.lemmas.Bool.{cases_lt}
 use Rattle.std.proofs.lemmas.List.{length_push}
 use Rattle.std.proofs.lemmas.Option.{slice_get-get_or}
@@ -29,7 +29,7 @@ abbrev pub Goes_on : List Item → Type 0
 Goes_on front = GoesOn items_of IsPlain front
 
 -- where one line more leads on
-back : (front : List Item) (i : Item) → Goes_on (front ++ i ∷ []) → Goes_on front
+pub back : (front : List Item) (i : Item) → Goes_on (front ++ i ∷ []) → Goes_on front
 back front i on = record { document = on.document; rest = i ∷ on.rest; fits = on.fits; goes_on = on.goes_on ∙ append_assoc front (i ∷ []) on.rest }
 
 -- where a line leads on
@@ -123,3 +123,8 @@ completes_script version state begins = back (shown (script version state)) item
 
 pub completes_done : (d : Document) → IsPlain d → Goes_on (items_of d)
 completes_done d plain = record { document = d; rest = []; fits = plain; goes_on = sym (append-nil (items_of d)) }
+
+-- whatever times are left
+pub completes_left : (version : ℕ) (state : State) (p : Proposal) → Good (times version state p) → Goes_on (shown (times version state p))
+completes_left version state p good =
+    completes_times (length state.plan.events - length p.times) version state p (omega (arith, good.1.times)) good
