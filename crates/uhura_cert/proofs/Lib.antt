@@ -16,3 +16,4 @@ pub mod MachineScript
 pub mod FirstParts
 pub mod ScriptRuns
 pub mod MachineLaws
+pub mod PlainDocuments

@@ -157,7 +157,7 @@ veto_shown plan vs v c is = pushed (plan_commands plan) (veto_command plan) vs v
 
 -- ---- slots
 
-slot_there : (rs : List Requirement) (k d : ℕ) → ((place : ℕ) (r : Requirement) → slice_get rs place ≡ Some r → r.slot ≡ place) → k < length rs → get_or (slots rs) k d ≡ k
+pub slot_there : (rs : List Requirement) (k d : ℕ) → ((place : ℕ) (r : Requirement) → slice_get rs place ≡ Some r → r.slot ≡ place) → k < length rs → get_or (slots rs) k d ≡ k
 slot_there [] k d places within = absurd (omega (arith, within))
 slot_there (r ∷ rs) k d places within =
     get_or-map (λ (r : Requirement). r.slot) (r ∷ rs) k r d within ∙ places k (get_or (r ∷ rs) k r) (slice_get-get_or (r ∷ rs) k r within)

@@ -39,7 +39,7 @@ use Rattle.uhura_cert.proofs.MachineRuns.{ScriptRuns}
 
 -- ---- where slots are places, nothing is renumbered
 
-abbrev CountsFrom : ℕ → List Requirement → Type 0
+abbrev pub CountsFrom : ℕ → List Requirement → Type 0
 CountsFrom first rs = (i : ℕ) (r : Requirement) → slice_get rs i ≡ Some r → r.slot ≡ first + i
 
 numbered_same : (first : ℕ) (rs : List Requirement) → CountsFrom first rs → numbered first rs ≡ rs
@@ -59,7 +59,7 @@ place_same first (r ∷ rs) slot counts there = by (nat_eq r.slot slot) refl (pl
     by true test rest there = let same : r.slot ≡ slot = (Decides-eqb r.slot slot).0 test in omega (arith, same, counts zero r refl)
     by false test rest there = omega (arith, rest there)
 
-counts_all : (plan : Lists) → HasPlacesAsSlots plan → CountsFrom 0 plan.requirements
+pub counts_all : (plan : Lists) → HasPlacesAsSlots plan → CountsFrom 0 plan.requirements
 counts_all plan slots = λ i r at. omega (arith, slots i r at)
 
 moved_same : (plan : Lists) (sound : IsSound plan) (thing : Thing) → HasPlacesAsSlots plan → IsItemOf plan thing → moved plan sound.distinct thing ≡ thing

@@ -1,3 +1,4 @@
+use Rattle.uhura_cert.proofs.PlainDocuments.{has_plain}
 use Rattle.uhura_cert.proofs.MachineLaws.{machine_laws}
 use Rattle.uhura_cert.proofs.ScriptRuns.{scripts_run}
 use Rattle.uhura_cert.proofs.MachineScript.{grows}
