@@ -17,3 +17,4 @@ pub mod FirstParts
 pub mod ScriptRuns
 pub mod MachineLaws
 pub mod PlainDocuments
+pub mod AllDocuments

@@ -5,3 +5,4 @@ pub mod Items
 pub mod Text
 pub mod Run
 pub mod Machine
+pub mod OneByOne

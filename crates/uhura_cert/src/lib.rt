@@ -5,7 +5,7 @@
 
 mod document;
 mod items;
-mod one_by_one;
+pub mod one_by_one;
 mod leaf;
 mod leaf_lines;
 mod listed;
