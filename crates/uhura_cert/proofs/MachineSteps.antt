@@ -247,14 +247,17 @@ from_times version state p (item.At event time) next fits begins sofar step =
     let question = to_question (begun version state) in
     subst (Follows (shown (spot.times version state p)) (item.At event time)) (sym step.leads)
     (record {
-      good = (begins, record {
-        cost = sofar.cost;
-        picks = sofar.picks;
-        picks_in_order = sofar.picks_in_order;
-        sides = sofar.sides;
-        times = omega (arith, slice_get_within state.plan.events (length p.times) event step.holds, length_push p.times time);
-        times_within = all_next (λ time. time ≤ LATEST) p.times time sofar.times_within fits.1;
-      });
+      good = (
+        begins,
+        record {
+          cost = sofar.cost;
+          picks = sofar.picks;
+          picks_in_order = sofar.picks_in_order;
+          sides = sofar.sides;
+          times = omega (arith, slice_get_within state.plan.events (length p.times) event step.holds, length_push p.times time);
+          times_within = all_next (λ time. time ≤ LATEST) p.times time sofar.times_within fits.1;
+        },
+      );
       lines =
           ap (λ z. question ++ (to_sides state.plan p ++ map time_item z)) (zip_next state.plan.events p.times event time step.holds)
           ∙ grown question (to_sides state.plan p) time_item (zip state.plan.events p.times) (event, time) (item.At event time) refl;
@@ -289,18 +292,21 @@ from_sides version state cost literals relaxed (item.Relax name side units) next
     (let back = item_back state.plan name k.item begins.slots step.such.found in let on = step.such.of_side in λ j. item.Relax (back j) (on j) units) in
     subst (Follows (shown (spot.sides version state cost literals relaxed)) (item.Relax name side units)) (sym step.leads)
     (record {
-      good = (begins, record {
-        cost = sofar.cost;
-        picks = sofar.picks;
-        picks_in_order = sofar.picks_in_order;
-        sides = record {
-          among = all_next (λ (s : SideKey × ℕ). IsItemOf state.plan s.0.item) relaxed (k, units) sofar.sides.among (IsItemOf-named state.plan (kind_named name) (name_of name) k.item step.such.found);
-          units = all_next (λ (s : SideKey × ℕ). IsBetween 1 SIDE_UNITS s.1) relaxed (k, units) sofar.sides.units fits.1;
-          in_order = rises_next (λ (s : SideKey × ℕ). side_place in_place s.0) 0 relaxed (k, units) sofar.sides.in_order step.such.later;
-        };
-        times = sofar.times;
-        times_within = tt;
-      });
+      good = (
+        begins,
+        record {
+          cost = sofar.cost;
+          picks = sofar.picks;
+          picks_in_order = sofar.picks_in_order;
+          sides = record {
+            among = all_next (λ (s : SideKey × ℕ). IsItemOf state.plan s.0.item) relaxed (k, units) sofar.sides.among (IsItemOf-named state.plan (kind_named name) (name_of name) k.item step.such.found);
+            units = all_next (λ (s : SideKey × ℕ). IsBetween 1 SIDE_UNITS s.1) relaxed (k, units) sofar.sides.units fits.1;
+            in_order = rises_next (λ (s : SideKey × ℕ). side_place in_place s.0) 0 relaxed (k, units) sofar.sides.in_order step.such.later;
+          };
+          times = sofar.times;
+          times_within = tt;
+        },
+      );
       lines = grown (to_question (begun version state)) (to_picks state.plan (proposal_of cost literals relaxed [])) (relax_item state.plan) relaxed (k, units) (item.Relax name side units) is;
     })
 from_sides version state cost literals relaxed i next fits begins sofar step =
@@ -315,14 +321,17 @@ from_picks version state cost literals (item.Pick choice alternative) next fits 
     let is : pick_item state.plan l ≡ item.Pick choice alternative = λ j. item.Pick (back j).0 (back j).1 in
     subst (Follows (shown (spot.picks version state cost literals)) (item.Pick choice alternative)) (sym step.leads)
     (record {
-      good = (begins, record {
-        cost = sofar.cost;
-        picks = all_next (IsLiteralAmong state.plan.choices) literals l sofar.picks (literal_among state.plan (choice, alternative) l (sym step.such.found));
-        picks_in_order = rises_next (λ (l : Literal). l.choice) 0 literals l sofar.picks_in_order step.such.later;
-        sides = record { among = tt; units = tt; in_order = tt };
-        times = sofar.times;
-        times_within = tt;
-      });
+      good = (
+        begins,
+        record {
+          cost = sofar.cost;
+          picks = all_next (IsLiteralAmong state.plan.choices) literals l sofar.picks (literal_among state.plan (choice, alternative) l (sym step.such.found));
+          picks_in_order = rises_next (λ (l : Literal). l.choice) 0 literals l sofar.picks_in_order step.such.later;
+          sides = record { among = tt; units = tt; in_order = tt };
+          times = sofar.times;
+          times_within = tt;
+        },
+      );
       lines = grown (to_question (begun version state)) (to_cost (proposal_of cost literals [] [])) (pick_item state.plan) literals l (item.Pick choice alternative) is;
     })
 from_picks version state cost literals i next fits begins sofar step =
@@ -336,14 +345,17 @@ from_question version state item.Nothing next fits begins step =
 from_question version state (item.Proposal cost) next fits begins step =
     subst (Follows (to_question (begun version state)) (item.Proposal cost)) (sym step)
     (record {
-      good = (begins, record {
-        cost = fits;
-        picks = tt;
-        picks_in_order = tt;
-        sides = record { among = tt; units = tt; in_order = tt };
-        times = omega arith;
-        times_within = tt;
-      });
+      good = (
+        begins,
+        record {
+          cost = fits;
+          picks = tt;
+          picks_in_order = tt;
+          sides = record { among = tt; units = tt; in_order = tt };
+          times = omega arith;
+          times_within = tt;
+        },
+      );
       lines = refl;
     })
 from_question version state i next fits begins step = absurd step

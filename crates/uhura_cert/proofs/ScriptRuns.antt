@@ -197,4 +197,3 @@ module _ (state : State) (sound : IsSoundState state) (slots : HasPlacesAsSlots 
 
 pub scripts_run : ScriptRuns
 scripts_run = λ version state sound slots. script_run version empty_state (commands_of state) state (run_commands state sound slots)
-

@@ -5,11 +5,11 @@
 
 mod document;
 mod items;
-pub mod one_by_one;
 mod leaf;
 mod leaf_lines;
 mod listed;
 mod lists;
+pub mod one_by_one;
 mod proposal;
 mod write;
 
