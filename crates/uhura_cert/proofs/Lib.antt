@@ -18,3 +18,5 @@ pub mod ScriptRuns
 pub mod MachineLaws
 pub mod PlainDocuments
 pub mod AllDocuments
+pub mod EndOf
+pub mod Nexts

@@ -9,7 +9,10 @@ mod leaf;
 mod leaf_lines;
 mod listed;
 mod lists;
+mod named;
 pub mod one_by_one;
+mod next;
+mod order;
 mod proposal;
 mod write;
 
