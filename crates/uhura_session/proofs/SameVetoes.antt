@@ -148,9 +148,10 @@ module _ (a b : Lists) (sound_a : IsSound a) (sound_b : IsSound b) (same_uncerta
   all_alike (v ∷ vs) [] of_a of_b spelled = let no : ⊥ = cc spelled in absurd no
   all_alike (v ∷ vs) (w ∷ ws) of_a of_b spelled =
       let first : veto_command a v ≡ veto_command b w = cc spelled in
-      let rest : map (veto_command a) vs ≡ map (veto_command b) ws = cc spelled in
-      (alike v w (All-head (IsVetoOf a) v vs of_a) (All-head (IsVetoOf b) w ws of_b) first,
-      all_alike vs ws (All-tail (IsVetoOf a) v vs of_a) (All-tail (IsVetoOf b) w ws of_b) rest)
+      let rest : map (veto_command a) vs ≡ map (veto_command b) ws = cc spelled in (
+        alike v w (All-head (IsVetoOf a) v vs of_a) (All-head (IsVetoOf b) w ws of_b) first,
+        all_alike vs ws (All-tail (IsVetoOf a) v vs of_a) (All-tail (IsVetoOf b) w ws of_b) rest,
+      )
 
   denies_alike : (picks : List Pick) (v w : Veto) → IsAlike v w → denies picks v ≡ denies picks w
   denies_alike picks (Deny n l) (Deny m k) same = ap (λ (literals : List Literal). holds literals picks) same

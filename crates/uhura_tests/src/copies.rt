@@ -31,6 +31,7 @@ fn copies_what_was_made(rt: HostRuntime) -> Result<(), Fail> {
     for (line, script) in [
         ("event a", "event a\n"),
         ("choice c x 1 y 2", "event a\nchoice c x 1 y 2\n"),
+        ("deny v c y", "event a\nchoice c x 1 y 2\ndeny v c y\n"),
     ] {
         let text = script_after(&mut state, rt.alloc(), line)?;
         assert!(rt; text.as_slice() == script.as_bytes());
