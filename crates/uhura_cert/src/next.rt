@@ -1,5 +1,5 @@
 //! What may come next in a list of a document, by its name in a line.
-ghost use Rattle.std.specs.Prelude.{◌≡◌, MatchOption, true, false, ⊥, length, slice_get, Some};
+ghost use Rattle.std.specs.Prelude.{◌≡◌, MatchOption, true, false, length, slice_get, Some};
 ghost use Rattle.uhura_plan.specs.declared.guard.Literal.{Literal};
 ghost use Rattle.uhura_plan.specs.declared.key.SideKey.{SideKey};
 ghost use Rattle.uhura_plan.specs.declared.key.EdgeKey.{EdgeKey};
