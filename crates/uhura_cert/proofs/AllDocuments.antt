@@ -1,12 +1,11 @@
 -- What the laws of the reader of documents say of all documents, and not of plain ones alone.
-use Rattle.std.proofs.Common.{◌≡◌, ℕ, ◌+◌, ◌<◌, List, [], length, take, get_or, ap, ◌∙◌}
+use Rattle.std.proofs.Common.{ℕ, ◌+◌, List, [], length, take, get_or, ap, ◌∙◌}
 use Rattle.std.proofs.lemmas.List.{get_or_default}
-use Rattle.uhura_cert.specs.Document.{Document}
 use Rattle.uhura_cert.specs.Items.{lines_of}
-use Rattle.uhura_cert.specs.Text.{Agrees, IsFirstMalformed}
-use Rattle.uhura_cert.specs.Machine.{Spot, start, done, IsPlain, Good, Takes}
+use Rattle.uhura_cert.specs.Text.{IsFirstMalformed}
+use Rattle.uhura_cert.specs.Machine.{start, done, IsPlain, Good, Takes}
 use Rattle.uhura_cert.specs.OneByOne.{RefusedLinesAreMalformed, LinesEndTooEarly, TakenLinesAreRead}
-use Rattle.uhura_cert.proofs.Laws.{IsFirstBy, AgreesBy, refused_there, ends_early, is_fit, is_text, no_other}
+use Rattle.uhura_cert.proofs.Laws.{IsFirstBy, refused_there, ends_early, is_fit, is_text, no_other}
 use Rattle.uhura_cert.proofs.MachineLaws.{shown_lines, machine_laws}
 use Rattle.uhura_cert.proofs.PlainDocuments.{plain_document, document_plain, has_plain}
 

@@ -1,19 +1,19 @@
 -- The first things of a sound state are a sound state: its first events, all events and its first durations, and so on.
-use Rattle.std.proofs.Common.{◌≡◌, ◌≢◌, ℕ, ◌+◌, ◌*◌, ◌<◌, ◌≤◌, List, [], ◌∷◌, length, take, map, get_or, Some, slice_get, Contains, All, AllPairs, refl, sym, ap, subst, ◌∙◌, arith, length-take, get_or-take, ⊎_elim}
+use Rattle.std.proofs.Common.{◌≡◌, ◌≢◌, ℕ, ◌*◌, ◌<◌, ◌≤◌, List, [], ◌∷◌, length, take, map, get_or, Some, slice_get, Contains, All, AllPairs, refl, sym, ap, subst, ◌∙◌, arith, length-take, get_or-take, ⊎_elim}
 use Rattle.std.proofs.Math.Nat.{mul-le-mul_left}
 use Rattle.std.proofs.lemmas.Bool.{cases_lt}
-use Rattle.std.proofs.lemmas.List.{take-map, take_all, take-take, length-map}
+use Rattle.std.proofs.lemmas.List.{take-map, take_all, take-take}
 use Rattle.std.proofs.lemmas.List.Elements.{All-take}
 use Rattle.std.proofs.lemmas.Option.{slice_get_within, slice_get-get_or}
 use Rattle.uhura_plan.specs.declared.limits.TheConstants.{BRANCHES}
 use Rattle.uhura_plan.specs.declared.uncertain.Uncertain.{Uncertain}
 use Rattle.uhura_plan.specs.declared.choice.Choice.{Choice}
 use Rattle.uhura_plan.specs.declared.requirement.Requirement.{Requirement}
-use Rattle.uhura_plan.specs.Lists.{Lists, end_names, uncertain_names, choice_names, requirement_names, slots}
+use Rattle.uhura_plan.specs.Lists.{Lists, end_names, slots}
 use Rattle.uhura_plan.specs.Sound.{AreDistinct, IsName, IsSound, IsSoundUncertain, IsSoundChoice, IsSoundRequirement, alternatives_product}
 use Rattle.uhura_veto.specs.declared.veto.Veto.{Veto}
-use Rattle.uhura_veto.specs.Vetoes.{HasName, IsSoundVeto, IsVetoOf, AreVetoesOf, veto_name, veto_names}
-use Rattle.uhura_command.proofs.Beginnings.{slice_get-take, length_before}
+use Rattle.uhura_veto.specs.Vetoes.{HasName, IsSoundVeto, IsVetoOf, AreVetoesOf, veto_name}
+use Rattle.uhura_command.proofs.Beginnings.{slice_get-take}
 use Rattle.uhura_command.proofs.Naming.{distinct_take}
 use Rattle.uhura_command.proofs.Products.{product_of_first}
 

@@ -1,23 +1,22 @@
 -- What a document names is found by its name, and what is found has that name. Slots are places.
-use Rattle.std.proofs.Common.{◌≡◌, ℕ, zero, suc, ◌+◌, ◌<◌, Bool, true, false, ◌==◌, List, [], ◌∷◌, length, map, get_or, find, position, Option, None, Some, IsSome, option_map, option_and_then, slice_get, bytes_eq, IsSomeAnd, All, refl, sym, ap, subst, ◌∙◌, arith, zero-add}
-use Rattle.std.specs.Prelude.{if◌then◌else◌, nat_eq}
+use Rattle.std.proofs.Common.{◌≡◌, ℕ, zero, suc, ◌+◌, ◌<◌, Bool, true, false, ◌==◌, List, [], ◌∷◌, length, get_or, find, Option, None, Some, IsSome, option_map, option_and_then, slice_get, bytes_eq, IsSomeAnd, refl, sym, ap, subst, ◌∙◌, arith}
+use Rattle.std.specs.Prelude.{if◌then◌else◌}
 use Rattle.std.specs.Option.{option_map_or}
 use Rattle.std.proofs.lemmas.Bool.Decides.{Decides-eqb, nat_tests}
 use Rattle.std.proofs.lemmas.List.{length-map}
 use Rattle.std.proofs.lemmas.List.Elements.{All-cons, All-nil}
 use Rattle.std.proofs.lemmas.List.Quantifiers.{position-Some}
-use Rattle.std.proofs.lemmas.Option.{slice_get-get_or, slice_get-map, slice_get_within, same_Some}
+use Rattle.std.proofs.lemmas.Option.{slice_get-get_or, slice_get-map, same_Some}
 use Rattle.std.proofs.lemmas.Slice.Eq.{bytes_eq-Decides}
 use Rattle.uhura_plan.specs.declared.key.EdgeKey.{EdgeKey}
 use Rattle.uhura_plan.specs.declared.key.EdgeKey.TheVariants as key
 use Rattle.uhura_plan.specs.declared.key.Item.{Item as Thing}
 use Rattle.uhura_plan.specs.declared.key.Item.TheVariants.{Requirement as InSlot, Uncertain as AtPlace}
 use Rattle.uhura_plan.specs.declared.key.Side.{Side}
-use Rattle.uhura_plan.specs.declared.key.SideKey.{SideKey}
 use Rattle.uhura_plan.specs.declared.guard.Literal.{Literal}
 use Rattle.uhura_plan.specs.declared.choice.Choice.{Choice}
 use Rattle.uhura_plan.specs.declared.requirement.Requirement.{Requirement}
-use Rattle.uhura_plan.specs.Find.{place_of, literal_named, requirement_named, requirement_of, requirement_in, uncertain_named}
+use Rattle.uhura_plan.specs.Find.{place_of, literal_named, requirement_named, requirement_in, uncertain_named}
 use Rattle.uhura_plan.specs.Lists.{Lists, uncertain_names, choice_names, requirement_names, alternative_names}
 use Rattle.uhura_plan.specs.Sound.{AreDistinct, IsSound, IsLiteralAmong}
 use Rattle.uhura_plan.proofs.Finds.{place_within, spelled, IsSpelled, literal_among}
@@ -34,7 +33,7 @@ use Rattle.uhura_line.specs.Reads.{name_of}
 use Rattle.uhura_command.specs.Apply.{kind_named}
 use Rattle.uhura_command.specs.Script.{name_at, item_name, literal_names}
 use Rattle.uhura_command.proofs.Naming.{found_at, name_there}
-use Rattle.uhura_command.proofs.Spelling.{begins_first, spells, Begins}
+use Rattle.uhura_command.proofs.Spelling.{spells, Begins}
 use Rattle.uhura_item.specs.declared.item.EdgeKind.{EdgeKind}
 use Rattle.uhura_item.specs.declared.item.EdgeKind.TheVariants as kind
 use Rattle.uhura_item.specs.declared.item.EdgeName.{EdgeName}
@@ -42,7 +41,7 @@ use Rattle.uhura_item.specs.declared.item.EdgeName.TheVariants.{Side as OfSide, 
 use Rattle.uhura_cert.specs.Order.{IsEdgeOf}
 use Rattle.uhura_cert.specs.Document.{HasPlacesAsSlots, IsPickOf, ArePicks}
 use Rattle.uhura_cert.specs.Items.{edge_name, picked_name, picked_names}
-use Rattle.uhura_cert.specs.Machine.{edge_of, side_edge, edge_named, IsPickNamed, ArePicksNamed}
+use Rattle.uhura_cert.specs.Machine.{side_edge, edge_named, IsPickNamed, ArePicksNamed}
 
 -- ---- names in a list
 

@@ -1,5 +1,5 @@
 -- From each good spot of the reader of documents some document goes on.
-use Rattle.std.proofs.Common.{◌≡◌, ℕ, zero, suc, ◌+◌, ◌-◌, ◌<◌, ◌≤◌, List, [], ◌∷◌, ◌++◌, length, get_or, Option, Some, None, refl, sym, ap, subst, ◌∙◌, arith, append_assoc, append-nil, ⊎_elim}
+use Rattle.std.proofs.Common.{◌≡◌, ℕ, zero, suc, ◌+◌, ◌-◌, ◌<◌, ◌≤◌, List, [], ◌∷◌, ◌++◌, length, get_or, refl, sym, ap, subst, ◌∙◌, arith, append_assoc, append-nil, ⊎_elim}
 use Rattle.std.proofs.lemmas.Bool.{cases_lt}
 use Rattle.std.proofs.lemmas.List.{length_push}
 use Rattle.std.proofs.lemmas.Option.{slice_get-get_or}
@@ -17,10 +17,9 @@ use Rattle.uhura_cert.specs.declared.document.Proposal.{Proposal}
 use Rattle.uhura_cert.specs.declared.document.Shared.TheVariants as shared
 use Rattle.uhura_cert.specs.declared.document.Reason.{Reason}
 use Rattle.uhura_cert.specs.declared.document.Reason.TheVariants as reason
-use Rattle.uhura_cert.specs.declared.document.Leaf.{Leaf}
 use Rattle.uhura_cert.specs.Document.{Document, IsReasonOf, MayStand}
-use Rattle.uhura_cert.specs.Items.{leaf_items, picked_names, to_shared, to_leaves, to_question, to_sides, to_picks, items_of}
-use Rattle.uhura_cert.specs.Machine.{Spot, script, question, picks, sides, times, entries, entry_flow, entry_walk, leaves, leaf_head, leaf_flow, leaf_walk, done, in_place, begun, IsPlain, IsPlainFront, IsBegun, FitsSoFar, Good, shown, with_entry, with_leaf, proposal_of, leaf_of}
+use Rattle.uhura_cert.specs.Items.{leaf_items, picked_names, to_shared, to_leaves, to_question, to_picks, items_of}
+use Rattle.uhura_cert.specs.Machine.{Spot, script, picks, sides, times, entry_flow, entry_walk, leaf_head, leaf_flow, leaf_walk, in_place, begun, IsPlain, IsPlainFront, IsBegun, Good, shown, with_entry, with_leaf, proposal_of, leaf_of}
 use Rattle.uhura_cert.proofs.Laws.{GoesOn}
 use Rattle.uhura_cert.proofs.MachineSteps.{Follows, leafless, leaf_closed, entry_closed, plain_leaf, plain_entry, no_edges, one_line_leaf, timeless, from_times, from_question}
 

@@ -1,7 +1,6 @@
 -- What holds of the reader of documents line by line: the first line that it doesn't take is the first malformed one, and
 -- lines that it takes to an end are the text of one document.
-use Rattle.std.proofs.Common.{◌≡◌, ◌≢◌, ℕ, List, [], ◌∷◌, ◌++◌, map, Some, slice_get, bytes_eq, refl, sym, ap, subst, ◌∙◌, arith, append_assoc}
-use Rattle.std.specs.List.{AllByRecursion}
+use Rattle.std.proofs.Common.{◌≡◌, ℕ, List, [], ◌∷◌, ◌++◌, map, bytes_eq, refl, sym, ap, subst, ◌∙◌, arith, append_assoc}
 use Rattle.std.proofs.lemmas.List.{map-append, map_push}
 use Rattle.std.proofs.lemmas.Map.Keys.{IsDistinct-from_apart}
 use Rattle.uhura_plan.specs.Lists.{empty}
@@ -17,8 +16,8 @@ use Rattle.uhura_item.specs.Item.{IsItem, spell}
 use Rattle.uhura_item.proofs.OneItem.{one_item}
 use Rattle.uhura_cert.specs.Document.{Document}
 use Rattle.uhura_cert.specs.Items.{items_of, lines_of}
-use Rattle.uhura_cert.specs.Machine.{Spot, start, script, question, picks, sides, times, entries, entry_flow, entry_walk, leaves, leaf_head, leaf_flow, leaf_walk, done, in_place, begun, IsPlain, IsBegun, Good, shown, FromStart, FromScript, Step, Moves, Takes}
-use Rattle.uhura_cert.specs.Run.{Turn, Run}
+use Rattle.uhura_cert.specs.Machine.{Spot, start, script, question, picks, sides, times, entries, entry_flow, entry_walk, leaves, leaf_head, leaf_flow, leaf_walk, done, in_place, IsPlain, IsBegun, Good, shown, FromStart, FromScript, Step, Moves, Takes}
+use Rattle.uhura_cert.specs.Run.{Run}
 use Rattle.uhura_cert.proofs.Laws.{Laws, GoesOn}
 use Rattle.uhura_cert.proofs.ItemsFit.{items_fit}
 use Rattle.uhura_cert.proofs.FirstParts.{none_of}

@@ -1,5 +1,5 @@
 -- A line leads from a spot of the reader of documents to one spot at most.
-use Rattle.std.proofs.Common.{◌≡◌, ℕ, ◌<◌, ◌≤◌, List, [], ◌∷◌, map, Option, Some, Contains, refl, sym, ap, subst, ◌∙◌, arith, ⊎_elim}
+use Rattle.std.proofs.Common.{◌≡◌, ℕ, ◌<◌, List, [], ◌∷◌, map, Option, Some, refl, sym, ap, ◌∙◌, arith, ⊎_elim}
 use Rattle.std.proofs.lemmas.Bool.{cases_lt}
 use Rattle.std.proofs.lemmas.Option.{same_Some}
 use Rattle.uhura_plan.specs.declared.key.EdgeKey.{EdgeKey}
@@ -9,8 +9,7 @@ use Rattle.uhura_plan.specs.declared.key.Side.{Side}
 use Rattle.uhura_plan.specs.declared.guard.Literal.{Literal}
 use Rattle.uhura_plan.specs.declared.requirement.Requirement.{Requirement}
 use Rattle.uhura_plan.specs.Edits.{AreLiteralsOf, AddsUncertain, AddsChoice, AddsRequirement, IsRequirementOf, IsLeastFree, StatedUncertain, StatedChoice, StatedRequirement, uncertain_from, with_uncertain, choice_under, with_choice, with_requirement}
-use Rattle.uhura_plan.specs.Find.{literal_named}
-use Rattle.uhura_plan.specs.Lists.{Lists, slots}
+use Rattle.uhura_plan.specs.Lists.{Lists}
 use Rattle.uhura_choice.specs.declared.prefix.Pick.{Pick}
 use Rattle.uhura_veto.specs.declared.veto.Veto.{Veto}
 use Rattle.uhura_veto.specs.declared.veto.Veto.TheVariants.{Deny}
@@ -19,7 +18,6 @@ use Rattle.uhura_veto.specs.State.{State}
 use Rattle.uhura_line.specs.declared.command.Command.{Command}
 use Rattle.uhura_line.specs.declared.command.Command.TheVariants as command
 use Rattle.uhura_line.specs.declared.command.ItemName.{ItemName}
-use Rattle.uhura_command.specs.Apply.{Applies}
 use Rattle.uhura_item.specs.declared.item.EdgeName.{EdgeName}
 use Rattle.uhura_item.specs.declared.item.Item.{Item}
 use Rattle.uhura_item.specs.declared.item.Item.TheVariants as item

@@ -1,15 +1,15 @@
 -- The lines of a document lead its reader from the start to where that document is done.
-use Rattle.std.proofs.Common.{◌≡◌, ℕ, zero, suc, ◌+◌, ◌<◌, ◌≤◌, List, [], ◌∷◌, ◌++◌, length, map, flat_map, Option, Some, None, IfSome, slice_get, refl, sym, ap, subst, ◌∙◌, arith, append_assoc, append-nil}
+use Rattle.std.proofs.Common.{◌≡◌, ℕ, List, [], ◌∷◌, ◌++◌, length, map, flat_map, Option, Some, None, IfSome, slice_get, refl, sym, ap, subst, ◌∙◌, arith, append_assoc, append-nil}
 use Rattle.std.specs.List.{AllByRecursion, zip}
 use Rattle.std.proofs.lemmas.List.{map_push}
 use Rattle.uhura_plan.specs.declared.key.EdgeKey.{EdgeKey}
 use Rattle.uhura_plan.specs.declared.key.SideKey.{SideKey}
 use Rattle.uhura_plan.specs.declared.guard.Literal.{Literal}
-use Rattle.uhura_plan.specs.Sound.{IsSound, IsLiteralAmong}
+use Rattle.uhura_plan.specs.Sound.{IsLiteralAmong}
 use Rattle.uhura_choice.specs.declared.prefix.Pick.{Pick}
 use Rattle.uhura_veto.specs.State.{State}
 use Rattle.uhura_veto.specs.Vetoes.{IsItemOf}
-use Rattle.uhura_command.specs.Script.{item_name, literal_names, commands_of}
+use Rattle.uhura_command.specs.Script.{item_name, commands_of}
 use Rattle.uhura_command.specs.State.{empty_state, IsSoundState}
 use Rattle.uhura_item.specs.declared.item.Item.{Item}
 use Rattle.uhura_item.specs.declared.item.Item.TheVariants as item
@@ -23,8 +23,8 @@ use Rattle.uhura_cert.specs.declared.document.Leaf.{Leaf}
 use Rattle.uhura_cert.specs.Order.{IsEdgeOf, side_place, edge_place, Rises}
 use Rattle.uhura_cert.specs.Document.{HasPlacesAsSlots, Document, FitsPlan, AreEdgeUnits, AreEdges, IsShared, IsReasonOf, MayStand, IsLeaf}
 use Rattle.uhura_cert.specs.Items.{pick_item, relax_item, time_item, units_item, edge_item, to_cost, to_picks, to_sides, to_times, proposal_items, answer_items, shared_items, reason_items, edge_name, leaf_items, picked_names, to_version, to_script, to_question, to_answer, to_shared, to_leaves, items_of}
-use Rattle.uhura_cert.specs.Machine.{Spot, start, script, question, picks, sides, times, entries, entry_flow, entry_walk, leaves, leaf_head, leaf_flow, leaf_walk, done, end_of, in_place, begun, answered, IsPlain, IsPlainFront, HasReason, IsNextEdge, IsNextSide, IsNextPick, edge_named, with_entry, with_leaf, proposal_of, leaf_of, FromTimes, FromLeaves, FromEntries, Step, Moves}
-use Rattle.uhura_cert.specs.Run.{Turn, Run}
+use Rattle.uhura_cert.specs.Machine.{Spot, start, script, question, picks, sides, times, entries, entry_flow, entry_walk, leaves, leaf_head, leaf_flow, leaf_walk, done, in_place, answered, IsPlain, IsPlainFront, HasReason, IsNextEdge, IsNextSide, edge_named, with_entry, with_leaf, proposal_of, leaf_of, FromTimes, FromLeaves, FromEntries, Step, Moves}
+use Rattle.uhura_cert.specs.Run.{Run}
 use Rattle.uhura_cert.proofs.Laws.{run-append}
 use Rattle.uhura_cert.proofs.Ordered.{rises_at, all_at, runs_each}
 use Rattle.uhura_cert.proofs.MachineSteps.{plain_entry, plain_leaf, plain_answer}

@@ -1,10 +1,10 @@
 -- A command of a script that makes the next state is the next of the state's commands, and slots stay places.
-use Rattle.std.proofs.Common.{◌≡◌, ℕ, zero, suc, ◌+◌, ◌<◌, ◌≤◌, List, [], ◌∷◌, ◌++◌, length, take, map, get_or, Option, None, Some, IsSomeAnd, Contains, option_map, slice_get, All, refl, sym, ap, subst, ◌∙◌, arith, append_assoc, append-nil, ⊎_elim}
+use Rattle.std.proofs.Common.{◌≡◌, ℕ, zero, suc, ◌+◌, ◌<◌, ◌≤◌, List, [], ◌∷◌, ◌++◌, length, map, get_or, Option, None, Some, option_map, slice_get, All, refl, sym, ap, subst, ◌∙◌, arith, append_assoc, append-nil, ⊎_elim}
 use Rattle.std.specs.Option.{option_or, option_map_or}
 use Rattle.std.proofs.lemmas.Bool.{cases_lt}
 use Rattle.std.proofs.lemmas.List.{length_push, map_push, length-map, get_or-map}
 use Rattle.std.proofs.lemmas.List.Elements.{All-head, All-tail}
-use Rattle.std.proofs.lemmas.Option.{same_Some, slice_get_within, slice_get-get_or, get_or_from_slice_get}
+use Rattle.std.proofs.lemmas.Option.{same_Some, slice_get_within, slice_get-get_or}
 use Rattle.uhura_plan.specs.declared.key.EventRef.{EventRef}
 use Rattle.uhura_plan.specs.declared.key.EventRef.TheVariants.{Controllable, End}
 use Rattle.uhura_plan.specs.declared.guard.Literal.{Literal}
@@ -14,14 +14,13 @@ use Rattle.uhura_plan.specs.declared.requirement.Requirement.{Requirement}
 use Rattle.uhura_plan.specs.Edits.{AreLiteralsOf, IsLeastFree}
 use Rattle.uhura_plan.specs.Find.{place_of, find_event, literal_named}
 use Rattle.uhura_plan.specs.Lists.{Lists, end_names, alternative_names, slots}
-use Rattle.uhura_plan.specs.Sound.{IsSoundChoice, IsLiteralAmong, IsSound}
+use Rattle.uhura_plan.specs.Sound.{IsLiteralAmong, IsSound}
 use Rattle.uhura_plan.proofs.Building.{choice_within}
 use Rattle.uhura_plan.proofs.Finds.{literal_among}
 use Rattle.uhura_veto.specs.declared.veto.Veto.{Veto}
 use Rattle.uhura_veto.specs.State.{State}
 use Rattle.uhura_line.specs.declared.command.Command.{Command}
 use Rattle.uhura_line.specs.declared.command.Command.TheVariants as command
-use Rattle.uhura_command.specs.Apply.{Applies}
 use Rattle.uhura_command.specs.Script.{name_at, event_name, literal_names, guard_names, uncertain_command, choice_command, requirement_command, veto_command, plan_commands, commands_of}
 use Rattle.uhura_command.proofs.PlanNames.{literals_among_all}
 use Rattle.uhura_cert.specs.Document.{HasPlacesAsSlots}

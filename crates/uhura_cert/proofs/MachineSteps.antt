@@ -1,6 +1,6 @@
 -- A step of the reader of documents leads from where something good holds to where it holds again, and one line more
 -- is shown.
-use Rattle.std.proofs.Common.{◌≡◌, ℕ, zero, suc, ◌+◌, ◌<◌, ◌≤◌, List, [], ◌∷◌, ◌++◌, length, map, flat_map, Option, Some, None, IfSome, slice_get, refl, sym, ap, subst, ◌∙◌, arith, append_assoc, append-nil}
+use Rattle.std.proofs.Common.{◌≡◌, ℕ, ◌≤◌, List, [], ◌∷◌, ◌++◌, length, map, flat_map, Option, Some, None, IfSome, slice_get, refl, sym, ap, subst, ◌∙◌, arith, append_assoc, append-nil}
 use Rattle.std.specs.List.{AllByRecursion, zip}
 use Rattle.std.proofs.lemmas.Grind.{flat_map-append}
 use Rattle.std.proofs.lemmas.List.{length_push, map_push}
@@ -29,7 +29,7 @@ use Rattle.uhura_cert.specs.declared.document.Reason.{Reason}
 use Rattle.uhura_cert.specs.declared.document.Reason.TheVariants as reason
 use Rattle.uhura_cert.specs.declared.document.Leaf.{Leaf}
 use Rattle.uhura_cert.specs.Order.{IsEdgeOf, side_place, edge_place}
-use Rattle.uhura_cert.specs.Document.{Document, FitsPlan, AreRelaxed, AreEdgeUnits, IsShared, IsLeaf, HasFittingParts, HasPlacesAsSlots}
+use Rattle.uhura_cert.specs.Document.{Document, FitsPlan, AreEdgeUnits, IsShared, IsLeaf}
 use Rattle.uhura_cert.specs.Items.{pick_item, relax_item, time_item, units_item, edge_item, to_cost, to_picks, to_sides, to_times, shared_items, leaf_items, picked_names, to_question, to_answer, to_shared, to_leaves}
 use Rattle.uhura_cert.specs.Machine.{Spot, end_of, in_place, IsPlain, IsPlainFront, IsBegun, FitsSoFar, Good, shown, begun, answered, with_entry, with_leaf, proposal_of, leaf_of, FromQuestion, FromTimes, FromSides, FromPicks, FromLeaves, FromEntries, FromEntryFlow, FromEntryWalk, FromLeafHead, FromLeafFlow, FromLeafWalk, IsNextEdge}
 use Rattle.uhura_cert.specs.Machine as spot

@@ -3,7 +3,7 @@ use Rattle.std.proofs.Common.{◌≡◌, ℕ, zero, suc, ◌+◌, ◌<◌, ◌�
 use Rattle.std.specs.List.{AllByRecursion}
 use Rattle.uhura_cert.specs.Order.{Rises}
 use Rattle.uhura_cert.specs.Machine.{end_of}
-use Rattle.uhura_cert.specs.Run.{Turn, Run}
+use Rattle.uhura_cert.specs.Run.{Run}
 
 module _ {X : Type 0} (place : X → ℕ) where
   -- a thing that comes next

@@ -1,6 +1,6 @@
 -- Plain documents, whose slots are places, are documents; and each document has a plain one with the same lines.
-use Rattle.std.proofs.Common.{◌≡◌, ◌≢◌, ℕ, zero, suc, ◌+◌, ◌*◌, ◌<◌, ◌≤◌, Bool, true, false, ◌==◌, List, [], ◌∷◌, ◌++◌, length, map, flat_map, find, get_or, Option, Some, None, IsSome, IfSome, All, AllPairs, slice_get, refl, sym, ap, subst, ◌∙◌, arith, zero-add}
-use Rattle.std.specs.Prelude.{if◌then◌else◌, nat_eq}
+use Rattle.std.proofs.Common.{◌≡◌, ℕ, zero, suc, ◌+◌, ◌*◌, ◌≤◌, Bool, true, false, ◌==◌, List, [], ◌∷◌, ◌++◌, length, map, flat_map, find, Option, Some, None, IsSome, IfSome, All, slice_get, refl, sym, ap, subst, ◌∙◌, arith}
+use Rattle.std.specs.Prelude.{if◌then◌else◌}
 use Rattle.std.specs.List.{AllByRecursion, position_or_len, zip}
 use Rattle.std.proofs.lemmas.Bool.Decides.{Decides-eqb}
 use Rattle.std.proofs.lemmas.List.{length-map}
@@ -11,29 +11,27 @@ use Rattle.uhura_plan.specs.declared.key.EdgeKey.TheVariants as key
 use Rattle.uhura_plan.specs.declared.key.Item.{Item as Thing}
 use Rattle.uhura_plan.specs.declared.key.Item.TheVariants.{Requirement as InSlot, Uncertain as AtPlace}
 use Rattle.uhura_plan.specs.declared.key.SideKey.{SideKey}
-use Rattle.uhura_plan.specs.declared.guard.Literal.{Literal}
 use Rattle.uhura_plan.specs.declared.requirement.Requirement.{Requirement}
-use Rattle.uhura_plan.specs.Lists.{Lists, slots, requirement_names}
+use Rattle.uhura_plan.specs.Lists.{Lists, slots}
 use Rattle.uhura_plan.specs.Sound.{AreDistinct, IsSound, IsSoundRequirement}
 use Rattle.uhura_plan.proofs.Named.{map_kept}
 use Rattle.uhura_veto.specs.declared.veto.Veto.{Veto}
 use Rattle.uhura_veto.specs.declared.veto.Veto.TheVariants.{Deny, Cap}
 use Rattle.uhura_veto.specs.State.{State}
-use Rattle.uhura_veto.specs.Vetoes.{HasName, IsSoundVeto, IsItemOf, IsVetoOf, AreVetoesOf, veto_name, veto_names}
+use Rattle.uhura_veto.specs.Vetoes.{HasName, IsSoundVeto, IsItemOf, IsVetoOf, veto_name, veto_names}
 use Rattle.uhura_veto.proofs.Items.{IsItemOf-named}
 use Rattle.uhura_line.specs.declared.command.Command.{Command}
 use Rattle.uhura_line.specs.declared.command.Command.TheVariants as command
 use Rattle.uhura_command.specs.Replay.{in_slot}
-use Rattle.uhura_command.specs.Script.{name_at, item_name, uncertain_command, choice_command, requirement_command, veto_command, commands_of}
+use Rattle.uhura_command.specs.Script.{name_at, uncertain_command, choice_command, requirement_command, commands_of}
 use Rattle.uhura_command.specs.State.{IsSoundState}
 use Rattle.uhura_command.proofs.CountedItems as numbers
 use Rattle.uhura_command.proofs.CountedItems.{counted, moved, item_shown, item_found}
 use Rattle.uhura_command.proofs.MakesVetoes.{remade, remade_commands}
-use Rattle.uhura_command.proofs.Numbering.{numbered, numbered_at, numbered_names, length-numbered}
-use Rattle.uhura_item.specs.declared.item.Item.{Item}
+use Rattle.uhura_command.proofs.Numbering.{numbered, numbered_names, length-numbered}
 use Rattle.uhura_item.specs.declared.item.Item.TheVariants as item
 use Rattle.uhura_item.specs.declared.item.EdgeKind.TheVariants as kind
-use Rattle.uhura_item.specs.declared.item.EdgeName.TheVariants.{Side, Order}
+use Rattle.uhura_item.specs.declared.item.EdgeName.TheVariants.{Side}
 use Rattle.uhura_item.specs.declared.limits.TheConstants.{SIDE_UNITS, EDGE_UNITS}
 use Rattle.uhura_item.specs.Item.{IsBetween, spell}
 use Rattle.uhura_cert.specs.declared.document.Proposal.{Proposal}
@@ -43,8 +41,8 @@ use Rattle.uhura_cert.specs.declared.document.Reason.{Reason}
 use Rattle.uhura_cert.specs.declared.document.Reason.TheVariants as reason
 use Rattle.uhura_cert.specs.declared.document.Leaf.{Leaf}
 use Rattle.uhura_cert.specs.Order.{place_in, item_place, side_number, side_place, edge_place, IsEdgeOf, Rises}
-use Rattle.uhura_cert.specs.Document.{Document, FitsPlan, AreRelaxed, AreEdgeUnits, AreEdges, IsShared, IsReasonOf, MayStand, IsLeaf, HasFittingParts, IsDocument, HasPlacesAsSlots}
-use Rattle.uhura_cert.specs.Items.{pick_item, relax_item, time_item, units_item, edge_item, edge_name, to_picks, proposal_items, answer_items, shared_items, reason_items, leaf_items, picked_names, items_of, lines_of}
+use Rattle.uhura_cert.specs.Document.{Document, FitsPlan, AreEdgeUnits, AreEdges, IsShared, IsReasonOf, MayStand, IsLeaf, HasFittingParts, IsDocument, HasPlacesAsSlots}
+use Rattle.uhura_cert.specs.Items.{relax_item, time_item, units_item, edge_item, edge_name, to_picks, proposal_items, answer_items, shared_items, reason_items, leaf_items, picked_names, items_of, lines_of}
 use Rattle.uhura_cert.specs.Machine.{in_place, IsPlain}
 use Rattle.uhura_cert.proofs.ItemsFit.{all_mapped}
 use Rattle.uhura_cert.proofs.MachineScript.{slot_there}

@@ -1,13 +1,11 @@
 -- The commands of a state whose slots are places lead from the empty state to it, one after the other in their order.
-use Rattle.std.proofs.Common.{◌≡◌, ℕ, zero, suc, ◌+◌, ◌<◌, ◌≤◌, Bool, true, false, List, [], ◌∷◌, ◌++◌, length, take, map, Some, IsSome, slice_get, find, All, refl, sym, ap, subst, ◌∙◌, arith}
+use Rattle.std.proofs.Common.{◌≡◌, ℕ, zero, suc, ◌+◌, Bool, true, false, List, [], ◌∷◌, length, take, map, Some, IsSome, slice_get, find, All, refl, ap, subst, arith}
 use Rattle.std.specs.Prelude.{if◌then◌else◌, nat_eq}
 use Rattle.std.proofs.lemmas.Bool.Decides.{Decides-eqb}
 use Rattle.std.proofs.lemmas.List.{take_all}
 use Rattle.std.proofs.lemmas.List.Elements.{All-head, All-tail}
 use Rattle.uhura_plan.specs.declared.key.Item.{Item as Thing}
 use Rattle.uhura_plan.specs.declared.key.Item.TheVariants.{Requirement as InSlot, Uncertain as AtPlace}
-use Rattle.uhura_plan.specs.declared.uncertain.Uncertain.{Uncertain}
-use Rattle.uhura_plan.specs.declared.choice.Choice.{Choice}
 use Rattle.uhura_plan.specs.declared.requirement.Requirement.{Requirement}
 use Rattle.uhura_plan.specs.Lists.{Lists}
 use Rattle.uhura_plan.specs.Sound.{IsSound}
@@ -32,7 +30,7 @@ use Rattle.uhura_command.proofs.Numbering.{numbered}
 use Rattle.uhura_item.specs.declared.item.Item.TheVariants as item
 use Rattle.uhura_cert.specs.Document.{HasPlacesAsSlots}
 use Rattle.uhura_cert.specs.Machine.{script, Makes, Step, later}
-use Rattle.uhura_cert.specs.Run.{Turn, Run}
+use Rattle.uhura_cert.specs.Run.{Run}
 use Rattle.uhura_cert.proofs.Laws.{run-append}
 use Rattle.uhura_cert.proofs.FirstParts.{lists, first_events, first_uncertains, first_choices, first_requirements, first_vetoes}
 use Rattle.uhura_cert.proofs.MachineRuns.{ScriptRuns}
