@@ -5,6 +5,7 @@
 #![tactic(auto)]
 
 mod document;
+mod in_order;
 mod items;
 mod leaf;
 mod leaf_lines;
