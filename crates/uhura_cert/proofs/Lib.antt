@@ -20,3 +20,4 @@ pub mod PlainDocuments
 pub mod AllDocuments
 pub mod EndOf
 pub mod Nexts
+pub mod Taken

@@ -6,3 +6,4 @@ pub mod Text
 pub mod Run
 pub mod Machine
 pub mod OneByOne
+pub mod Taking

@@ -16,6 +16,7 @@ mod next;
 pub mod one_by_one;
 mod order;
 mod proposal;
+mod script_line;
 mod write;
 
 pub use document::{Document, DocumentRefusal, Leaf, Proposal, Reason, Shared};
