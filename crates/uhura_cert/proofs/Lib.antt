@@ -21,3 +21,4 @@ pub mod AllDocuments
 pub mod EndOf
 pub mod Nexts
 pub mod Taken
+pub mod PrefixNames

@@ -15,6 +15,7 @@ mod named;
 mod next;
 pub mod one_by_one;
 mod order;
+mod prefix;
 mod proposal;
 mod script_line;
 mod write;
