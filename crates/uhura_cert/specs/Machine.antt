@@ -217,7 +217,8 @@ abbrev pub HasReason : Document → Type 0
 HasReason d = d.version ≡ 2 → 1 ≤ length d.state.vetoes + length d.shared
 
 -- the prefix of these names may be a leaf's
-pub record IsNextPrefix (d : Document) (names : List (Option (List ℕ))) (prefix : List Pick) : Type 0 where
+pub record IsNextPrefix (d : Document) (names : List (Option (List ℕ)))
+    (prefix : List Pick) : Type 0 where
   pub named : ArePicksNamed d.state.plan.choices names prefix
   pub goes_on : HasReason d
 
@@ -240,7 +241,8 @@ FromTimes version state p (item.At event time) next =
     Goes (slice_get state.plan.events (length p.times) ≡ Some event)
     (times version state (record p { times = p.times ++ time ∷ [] })) next
 FromTimes version state p item.End next =
-    Goes (length p.times ≡ length state.plan.events) (entries (answered version state (Some p))) next
+    Goes (length p.times ≡ length state.plan.events)
+    (entries (answered version state (Some p))) next
 FromTimes version state p i next = ⊥
 
 -- another side, or the times

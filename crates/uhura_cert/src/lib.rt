@@ -1,7 +1,7 @@
-//! Proposals and documents as text: when the parts of a document fit one another (`specs/Document.antt`), the line that
-//! each part has (`specs/Items.antt`), and how both are written. `specs/Text.antt` says which lines are a document's,
-//! and which line of others is the first that no document has, and `specs/Machine.antt` how lines are taken one by one
-//! (`one_by_one`); the reader itself is still to come.
+//! Proposals and documents as text: when the parts of a document fit one another (`specs/Document.antt`), the line
+//! that each part has (`specs/Items.antt`), and how both are written. `specs/Text.antt` says which lines are a
+//! document's, and which line of others is the first that no document has, and `specs/Machine.antt` how lines are
+//! taken one by one (`one_by_one`); the reader itself is still to come.
 #![tactic(auto)]
 
 mod document;

@@ -1,5 +1,5 @@
-//! The laws of the lines of a document, taken one by one (`specs/Machine.antt`): which line is the first that no document
-//! has, and which lines are a document's. They hold of all documents, and speak of no reader.
+//! The laws of the lines of a document, taken one by one (`specs/Machine.antt`): which line is the first that no
+//! document has, and which lines are a document's. They hold of all documents, and speak of no reader.
 ghost use Rattle.uhura_cert.specs.OneByOne.{RefusedLinesAreMalformed, LinesEndTooEarly, TakenLinesAreRead};
 
 /// The first line that isn't taken is the first malformed one; where lines end too early it is the line behind the
