@@ -48,7 +48,7 @@ module _ (plan : Lists) (distinct : AreDistinct (choice_names plan.choices)) (so
         (none_then _ _ (passed _ _ (le-ltb _ _ small)) refl))))))
 
     -- the choice at a place is the next
-    adds : Applies (before i) (choice_command plan c) (before (suc i))
+    pub adds : Applies (before i) (choice_command plan c) (before (suc i))
     adds = record {
       edits = tt;
       accepted = ap (option_map of_edit) accepted;

@@ -23,7 +23,7 @@ module _ (events : List (List ℕ)) (distinct : AreDistinct events) (few : lengt
   before i = state_with (take i events) [] [] []
 
   -- the event at a place is the next
-  adds : (i : ℕ) (name : List ℕ) → slice_get events i ≡ Some name → Applies (before i) (command.Event name) (before (suc i))
+  pub adds : (i : ℕ) (name : List ℕ) → slice_get events i ≡ Some name → Applies (before i) (command.Event name) (before (suc i))
   adds i name at =
       let new : find_event (before i).plan name ≡ None =
       ap (λ place. option_or (option_map (λ e. Controllable e) place) None) (not_found (take i events) name (not_before events distinct i name at)) in

@@ -70,7 +70,7 @@ module _ (plan : Lists) (distinct : HasDistinctNames plan) (alternatives : (plac
         (none_then _ _ (passed _ _ (lt-leb _ _ room)) refl)))))))
 
     -- the requirement at a place is the next
-    adds : Applies (before i) (requirement_command plan r) (before (suc i))
+    pub adds : Applies (before i) (requirement_command plan r) (before (suc i))
     adds = record {
       edits = tt;
       accepted = ap (option_map of_edit) accepted;

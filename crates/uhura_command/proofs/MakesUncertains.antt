@@ -68,7 +68,7 @@ module _ (plan : Lists) (distinct : HasDistinctNames plan) (sound : All (IsSound
         (none_then _ _ (passed _ _ (lt-leb _ _ room_for_end)) refl)))))))
 
     -- the duration at a place is the next
-    adds : Applies (before i) (uncertain_command plan u) (before (suc i))
+    pub adds : Applies (before i) (uncertain_command plan u) (before (suc i))
     adds = record {
       edits = tt;
       accepted = ap (option_map of_edit) accepted;

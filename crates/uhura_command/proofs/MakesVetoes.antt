@@ -120,7 +120,7 @@ module _ (plan : Lists) (sound : IsSound plan) where
           };
         }
 
-    adds : (i : ℕ) (veto : Veto) → slice_get vetoes i ≡ Some veto → Applies (before i) (veto_command plan veto) (before (suc i))
+    pub adds : (i : ℕ) (veto : Veto) → slice_get vetoes i ≡ Some veto → Applies (before i) (veto_command plan veto) (before (suc i))
     adds i (Deny name literals) at = adds_denial i name literals at
     adds i (Cap name key units) at = adds_cap i name key units at
 

@@ -46,7 +46,7 @@ unfolding is_name_byte is_letter
 graphic_name_byte b h = grind (arith, common_steps)
 
 -- a name is a word
-name_word : (word : Word) → is_name word ≡ true → IsWord word
+pub name_word : (word : Word) → is_name word ≡ true → IsWord word
 unfolding is_name
 name_word word named =
     let behind = and_parts (leb 1 (length word) && leb (length word) 32) (is_letter (get_or word 0 0) && (list_all is_name_byte word && not (is_fixed_word word))) named in
@@ -95,7 +95,7 @@ number_by word false false true a b c z first second third h =
 number_by word false false false a b c z first second third h = absurd (none-some z h)
 
 -- what is read as a number is a word
-number_word : (word : Word) (z : ℤ) → number_of word ≡ Some z → IsWord word
+pub number_word : (word : Word) (z : ℤ) → number_of word ≡ Some z → IsWord word
 unfolding number_of
 number_word word z h =
     number_by word (bytes_eq word (codes "0")) (is_magnitude word) (eqb (get_or word 0 0) 45 && is_magnitude (drop 1 word)) _ _ _ z refl refl refl h
@@ -130,7 +130,7 @@ three a b c h =
     (inner.0, inner.1, outer.1)
 
 -- a word that is given by its letters
-letters : (word : Word) → (ltb 0 (length word) && leb (length word) 32 && list_all is_graphic word) ≡ true
+pub letters : (word : Word) → (ltb 0 (length word) && leb (length word) 32 && list_all is_graphic word) ≡ true
     → IsWord word
 letters word h =
     let parts = three (ltb 0 (length word)) (leb (length word) 32) (list_all is_graphic word) h in

@@ -133,7 +133,7 @@ pub(crate) fn read_command(alloc: Global, mut words: Words<'_>) -> Result<Comman
 }
 
 /// Appends the words of a command.
-pub(crate) fn put_command(line: &mut Vec<u8>, command: &Command) -> Result<(), AllocError>
+pub fn put_command(line: &mut Vec<u8>, command: &Command) -> Result<(), AllocError>
     ensures { OnOk result (Writes line.old.items (words_of (form_of command.now)) line.new.items) }
 {
     match command {

@@ -1,7 +1,7 @@
-mod Added
+pub mod Added
 mod Caps
 mod Denials
-mod Items
+pub mod Items
 mod Removed
 pub mod SoundRooms
-mod Unrefused
+pub mod Unrefused

@@ -5,7 +5,7 @@ ghost use Rattle.uhura_line.specs.Reader.{next_three, next_five};
 use uhura_text::Words;
 
 /// Whether there is no word.
-pub(crate) fn is_end(mut words: Words<'_>) -> bool
+pub fn is_end(mut words: Words<'_>) -> bool
     ensures yes { result ≡ true → words.entry ≡ [] }
     ensures no { result ≡ false → words.entry ≡ [] → ⊥ }
 {
@@ -13,7 +13,7 @@ pub(crate) fn is_end(mut words: Words<'_>) -> bool
 }
 
 /// The next three words.
-pub(crate) fn next_three<'a>(words: &mut Words<'a>) -> Option<(&'a [u8], &'a [u8], &'a [u8])>
+pub fn next_three<'a>(words: &mut Words<'a>) -> Option<(&'a [u8], &'a [u8], &'a [u8])>
     ensures none { IfNone result (next_three words.old ≡ None) }
     ensures some { IfSome result (λ w.
         next_three words.old ≡ Some (w.0.now, w.1.now, w.2.now, words.new)) }

@@ -13,14 +13,14 @@ use uhura_plan::Name;
 
 /// What kind of thing a name is of.
 #[derive(Clone, Copy)]
-pub(crate) enum ItemKind {
+pub enum ItemKind {
     Require,
     Uncertain,
 }
 
 impl ItemKind {
     /// The kind that a word says.
-    pub(crate) fn read(word: &[u8]) -> Option<ItemKind>
+    pub fn read(word: &[u8]) -> Option<ItemKind>
         ensures { option_map kind_said result ≡ kind_in word.now }
     {
         if word == b"require".as_slice() {
@@ -33,7 +33,7 @@ impl ItemKind {
     }
 
     /// The thing of this kind that has the name.
-    pub(crate) fn name(self, name: Name) -> ItemName
+    pub fn name(self, name: Name) -> ItemName
         ensures kind { kind_of result ≡ kind_said self }
         ensures name { name_of result ≡ name }
     {
@@ -45,7 +45,7 @@ impl ItemKind {
 }
 
 /// Appends what kind of thing is named, and its name.
-pub(crate) fn put_item(line: &mut Vec<u8>, item: ItemName) -> Result<(), AllocError>
+pub fn put_item(line: &mut Vec<u8>, item: ItemName) -> Result<(), AllocError>
     ensures { let words = kind_word (kind_of item) ∷ name_of item ∷ [] in
         OnOk result (Appends line.old.items words line.new.items) }
 {

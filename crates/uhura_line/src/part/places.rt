@@ -100,7 +100,7 @@ pub(crate) fn read_bound(word: &[u8]) -> Option<Option<i64>>
 }
 
 /// The side that a word names.
-pub(crate) fn read_side(word: &[u8]) -> Option<Side>
+pub fn read_side(word: &[u8]) -> Option<Side>
     ensures { result ≡ side_in word.now }
 {
     if word == b"lower".as_slice() {
@@ -123,7 +123,7 @@ pub(crate) fn side_name(side: Side) -> &'static [u8]
 }
 
 /// Appends a word.
-pub(crate) fn put_word(line: &mut Vec<u8>, word: &[u8]) -> Result<(), AllocError>
+pub fn put_word(line: &mut Vec<u8>, word: &[u8]) -> Result<(), AllocError>
     ensures { OnOk result (Appends line.old.items (word.now ∷ []) line.new.items) }
 {
     line.extend_from_slice(b" ")?;
@@ -156,7 +156,7 @@ pub(crate) fn put_bound(line: &mut Vec<u8>, bound: Option<i64>) -> Result<(), Al
 }
 
 /// Appends a side.
-pub(crate) fn put_side(line: &mut Vec<u8>, side: Side) -> Result<(), AllocError>
+pub fn put_side(line: &mut Vec<u8>, side: Side) -> Result<(), AllocError>
     ensures { OnOk result (Appends line.old.items (side_word side ∷ []) line.new.items) }
 {
     put_word(line, side_name(side))

@@ -1,0 +1,7 @@
+use Rattle.std.proofs.Common.{◌≡◌, ◌++◌, map, flat_map, take}
+use Rattle.uhura_item.specs.Item.{item_line}
+use Rattle.uhura_cert.specs.Items.{units_item}
+use Rattle.uhura_cert.proofs.lists.put_units.Given as goal
+
+abbrev pub invariant-loop-edge : goal.invariant-loop-edge
+invariant-loop-edge l = l.out.items ≡ l.fn.out.items ++ flat_map item_line (map (units_item l.plan) (take l.edge-index l.edges))
