@@ -1,0 +1,59 @@
+//! A store's tables, as they take over a table of edges.
+ghost use Rattle.std.specs.Prelude.{◌≡◌, ◌≢◌, ◌<◌, ◌≤◌, ℕ, filter, length};
+ghost use Rattle.slab.specs.Slab.{get};
+ghost use Rattle.uhura_conflict.specs.Entries.{is_held, RevisesAt};
+
+use crate::entry::Entry;
+use crate::worth::{flow_worth, outlasts};
+use slab::Slab;
+use uhura_net::{EdgeTable, PLACES, Place};
+
+/// Gives up the entries that don't outlast the change from the one table to the other, and sets the values of the
+/// others to those at the new one.
+pub(crate) fn revise_all(entries: &mut Slab<Entry>, old: &EdgeTable, new: &EdgeTable)
+    ensures { (key : ℕ) → RevisesAt entries.old entries.new old.now new.now key }
+{
+    for key in 0..entries.capacity() {
+        revise_at(entries, key, old, new);
+    }
+}
+
+/// Does so with the entry under this key, if there is one.
+fn revise_at(entries: &mut Slab<Entry>, key: usize, old: &EdgeTable, new: &EdgeTable)
+    ensures here { RevisesAt entries.old entries.new old.now new.now key }
+    ensures others { (other : ℕ) → other ≢ key → get entries.new other ≡ get entries.old other }
+    ensures slots { length entries.new.slots ≡ length entries.old.slots }
+{
+    let Some(entry) = entries.get_mut(key) else {
+        return;
+    };
+    if outlasts(&entry.conflict, old, new) {
+        entry.value = flow_worth(&entry.conflict, new);
+    } else {
+        entries.try_remove(key);
+    }
+}
+
+/// Keeps the keys that have an entry, in their order.
+pub(crate) fn keep_held(order: &mut Vec<usize>, entries: &Slab<Entry>)
+    ensures { order.new.items ≡ filter (is_held entries.now) order.old.items }
+{
+    let mut kept = 0;
+    for place in 0..order.len() {
+        let key = order[place];
+        if entries.contains(key) {
+            order[kept] = key;
+            kept += 1;
+        }
+    }
+    order.truncate(kept);
+}
+
+/// Makes the one table the other.
+pub(crate) fn copy_table(to: &mut EdgeTable, from: &EdgeTable)
+    ensures { to.new ≡ from.now }
+{
+    for number in 0..PLACES as u32 {
+        to.put(Place(number), from.get(Place(number)));
+    }
+}

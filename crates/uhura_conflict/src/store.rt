@@ -1,0 +1,113 @@
+//! What was learned and kept.
+ghost use Rattle.std.specs.Prelude.{◌≡◌, ℕ, ◌≤◌, find, IfOk, IfErr, OnErr};
+ghost use Rattle.uhura_net.specs.Circulation.{edges_of};
+ghost use Rattle.uhura_conflict.specs.Learned.{IsValid};
+ghost use Rattle.uhura_conflict.specs.Literals.{Applies};
+ghost use Rattle.uhura_conflict.specs.Store.{conflict_at, IsStore, empty_store, IsBest, ExceedsBest, Adds, Revises, Trims};
+
+use crate::entry::Entry;
+use crate::looking::best_in;
+use crate::revising::{copy_table, keep_held, revise_all};
+use crate::trimming::{give_up, given_up};
+use crate::worth::flow_worth;
+use crate::{Bound, Conflict};
+use slab::Slab;
+use std::alloc::{AllocError, Global};
+use std::marker::Model;
+use uhura_choice::{Branch, Prefix};
+use uhura_net::EdgeTable;
+
+/// Conflicts under keys, each valid for the table last handed to `revise`, and their keys in the order in which they
+/// were added.
+#[derive(Drop)]
+pub struct Store {
+    entries: Slab<Entry>,
+    order: Vec<usize>,
+    table: EdgeTable,
+}
+
+impl Model for Store {
+    ghost use Rattle.uhura_conflict.specs.Store.{Stored, IsStore};
+
+    ghost Value = { Stored };
+
+    ghost use Rattle.uhura_conflict.specs.Entries.{shown_as, AreWorth};
+
+    ghost view = { λ s. shown_as s.entries s.order.items s.table };
+
+    ghost invariant = { λ s.
+        IsStore (shown_as s.entries s.order.items s.table) × AreWorth s.entries s.table };
+}
+
+impl Store {
+    /// A store without a conflict, for a table without an edge.
+    pub fn new(alloc: Global) -> Result<Store, AllocError>
+        ensures { IfOk result (λ store. store ≡ empty_store) }
+    {
+        Ok(Store {
+            entries: Slab::new(alloc),
+            order: Vec::new(alloc),
+            table: EdgeTable::new(alloc)?,
+        })
+    }
+
+    /// The best that is known of the branches with these picks: the firm cycle of the least key where one applies, or
+    /// else the flow of the greatest value above 0, and then of the least key, that does.
+    pub fn best(&self, prefix: &Prefix) -> Bound
+        ensures best { IsBest self.now prefix.now result }
+        ensures sound { IsStore self.now }
+    {
+        best_in(&self.entries, prefix.entries())
+    }
+
+    /// Adds a conflict under a key that has none, and gives it back where there is no memory. It is to exceed the best
+    /// that is known of the branch.
+    pub fn add(&mut self, conflict: Conflict, branch: &Branch) -> Result<usize, Conflict>
+        requires valid { IsValid (edges_of self.old.table) conflict }
+        requires applies { Applies branch.now conflict }
+        requires exceeds { ExceedsBest self.old branch.now conflict }
+        ensures added { IfOk result (λ key. Adds self.old self.new key conflict) }
+        ensures err { OnErr result (self.new ≡ self.old) }
+        ensures given_back { IfErr result (λ back. back ≡ conflict) }
+        ensures sound { IsStore self.new }
+    {
+        if self.order.reserve(1).is_err() || self.entries.reserve(1).is_err() {
+            return Err(conflict);
+        }
+        let value = flow_worth(&conflict, &self.table);
+        let key = self.entries.insert_reserved(Entry { conflict, value });
+        self.order.push_reserved(key);
+        Ok(key)
+    }
+
+    /// Another owner of the conflict under the key, and none exactly where the key has no conflict.
+    pub fn share(&self, key: usize) -> Result<Option<Conflict>, AllocError>
+        ensures conflict { IfOk result (λ shared. shared ≡ conflict_at self.now key) }
+        ensures sound { IsStore self.now }
+    {
+        match self.entries.get(key) {
+            Some(entry) => Ok(Some(entry.conflict.share()?)),
+            None => Ok(None),
+        }
+    }
+
+    /// Takes over a table. It gives up the conflicts of which an edge is gone or can't carry the units any more, and
+    /// the firm cycles whose bounds no longer sum below 0, and keeps all others.
+    pub fn revise(&mut self, table: &EdgeTable)
+        ensures revised { Revises self.old self.new table.now }
+        ensures sound { IsStore self.new }
+    {
+        revise_all(&mut self.entries, &self.table, table);
+        keep_held(&mut self.order, &self.entries);
+        copy_table(&mut self.table, table);
+    }
+
+    /// Gives up the fewest conflicts, the earliest added first, that leave at most so many pairs of place and units.
+    pub fn trim(&mut self, most: usize)
+        ensures trimmed { (count : ℕ) × Trims self.old self.new most count }
+        ensures sound { IsStore self.new }
+    {
+        let count = given_up(&self.order, &self.entries, most);
+        give_up(&mut self.order, &mut self.entries, count);
+    }
+}
