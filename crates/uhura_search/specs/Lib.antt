@@ -1,0 +1,5 @@
+pub mod Answer
+pub mod Appended
+pub mod Closed
+pub mod Searcher
+pub mod Shut
