@@ -1,6 +1,9 @@
+pub mod Answering
 pub mod Appending
 pub mod Enough
 pub mod Found
 pub mod Ranks
 pub mod Reasons
+pub mod Showing
+pub mod Shown
 pub mod Walked
