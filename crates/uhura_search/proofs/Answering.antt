@@ -23,15 +23,11 @@ use Rattle.uhura_search.specs.declared.leaf.LeafReason.{LeafReason}
 use Rattle.uhura_search.specs.declared.leaf.LeafReason.TheVariants.{Denied, Empty, Learned as LearnedOf}
 use Rattle.uhura_search.specs.declared.leaf.LeafNote.{LeafNote}
 use Rattle.uhura_search.specs.declared.incumbent.Incumbent.{Incumbent}
+use Rattle.uhura_search.specs.Known.{IsStoreFor, answer_of, IsReached}
 use Rattle.uhura_search.specs.Shut.{IsDear, IsEnough, IsShutBy, IsReason, IsNoted}
 use Rattle.uhura_search.specs.Answer.{shown_conflict, shown_reason, shown_leaf, shown_leaves}
 use Rattle.uhura_search.specs.Appended.{prefixes_of, AppendsCover}
-use Rattle.uhura_search.proofs.Showing.{IsStoreFor, IsKnownAt, known-at, stuck-shown, flow-shown, empty-shown}
-
--- the branch and the cost of the best so far
-abbrev pub answer_of : Option Incumbent → Answer
-answer_of None = None
-answer_of (Some best) = Some (best.branch, best.cost)
+use Rattle.uhura_search.proofs.Showing.{IsKnownAt, known-at, stuck-shown, flow-shown, empty-shown}
 
 -- a denial is known by the name of the first that denies
 abbrev pub AreDenialsNamed : State → Type 0
@@ -74,11 +70,6 @@ module _ (state : State) (store : Stored) (named : AreDenialsNamed state) (is_st
 same-prefixes : (state : State) (notes : List LeafNote) → shown.prefixes_of (shown_leaves state notes) ≡ prefixes_of notes
 same-prefixes state [] = refl
 same-prefixes state (note ∷ notes) = ap (λ (l : List (List Pick)). note.prefix ∷ l) (same-prefixes state notes)
-
--- something is allowed in the branch of the best so far
-abbrev pub IsReached : State → Option Incumbent → Type 0
-IsReached state None = Unit {0}
-IsReached state (Some best) = (k : ℕ) × (q : Proposal) × Allowed state k q × (q.branch ≡ best.branch)
 
 -- so the leaves show the answer
 pub leaves-show : (state : State) (store : Stored) (best : Option Incumbent) (notes : List LeafNote) → IsSound state.plan → AreDenialsNamed state → IsStoreFor state store → IsReached state best →

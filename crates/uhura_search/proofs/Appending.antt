@@ -110,3 +110,8 @@ child-smaller cs prefix child index have is there =
     let long : length child ≡ length prefix + 1 = ap length longer.1 ∙ length-append prefix (longer.0 ∷ []) in
     let few = prefix-few cs child (child-prefix cs prefix child index have is there) in
     omega (arith, long, few)
+
+-- nothing begins the empty prefix but itself
+pub none-above_empty : (Shut : Prefixes) → NoneAbove Shut []
+none-above_empty Shut [] begins shut = refl
+none-above_empty Shut (x ∷ front) (rest, is) shut = absurd (let never : ⊥ = cc in never)

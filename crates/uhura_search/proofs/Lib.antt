@@ -1,5 +1,6 @@
 pub mod Answering
 pub mod Appending
+pub mod Denials
 pub mod Enough
 pub mod Found
 pub mod Ranks

@@ -30,14 +30,9 @@ use Rattle.uhura_shows.proofs.Lists.{All-from_map}
 use Rattle.uhura_shows.specs.Carried.{IsCarried}
 use Rattle.uhura_shows.proofs.Pairs.{ListUnits, keyed-from_places, value-pairs}
 use Rattle.uhura_search.specs.declared.incumbent.Incumbent.{Incumbent}
+use Rattle.uhura_search.specs.Known.{IsStoreFor}
 use Rattle.uhura_search.specs.Shut.{IsEnough}
 use Rattle.uhura_search.proofs.Shown.{keyed_pairs, edge-at_key, edge-active, firm-places, keyed-list}
-
--- a store over the table of a state, whose conflicts have the literals of their requirements
-pub record IsStoreFor (state : State) (store : Stored) : Type 0 where
-  pub table : IsTableOf state store.table
-  pub sound : IsStore store
-  pub literals : (key : ℕ) → IfSome (conflict_at store key) (λ c. AreLiteralsOf state.plan (places_in c.pairs) c.literals)
 
 -- what is known of a conflict that applies
 pub record IsKnownAt (state : State) (store : Stored) (prefix : List Pick) (c : Learned) : Type 0 where
