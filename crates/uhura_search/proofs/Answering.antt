@@ -1,9 +1,8 @@
 -- Leaves that cover all branches, each shut for its reason, show the answer.
-use Rattle.std.proofs.Common.{◌≡◌, ℕ, ◌<◌, List, [], ◌∷◌, ◌++◌, length, get_or, map, Option, Some, None, true, false, Bool, refl, sym, ap, ◌∙◌, subst, inl, inr, arith}
-use Rattle.std.specs.Prelude.{ℤ, All, Contains, IsTrue, IsFalse, IfSome, ◌⊎◌, unwrap_or}
+use Rattle.std.proofs.Common.{◌≡◌, ℕ, List, [], ◌∷◌, get_or, Option, Some, None, refl, sym, ap, subst, inl, inr}
+use Rattle.std.specs.Prelude.{All, IsTrue, IsFalse, IfSome, ◌⊎◌, unwrap_or}
 use Rattle.std.proofs.lemmas.List.Elements.{All-map}
 use Rattle.uhura_plan.specs.Sound.{IsSound}
-use Rattle.uhura_plan.specs.declared.choice.Choice.{Choice}
 use Rattle.uhura_choice.specs.declared.prefix.Pick.{Pick}
 use Rattle.uhura_choice.specs.Order.{IsFrontOf}
 use Rattle.uhura_veto.specs.State.{State}
@@ -12,11 +11,11 @@ use Rattle.uhura_veto.specs.Find.{veto_named}
 use Rattle.uhura_worst.specs.Proposal.{Proposal}
 use Rattle.uhura_worst.specs.Allowed.{Allowed}
 use Rattle.uhura_conflict.specs.Learned.{Learned}
-use Rattle.uhura_conflict.specs.Store.{Stored, AppliesAt, value_at}
+use Rattle.uhura_conflict.specs.Store.{Stored, value_at}
 use Rattle.uhura_shows.specs.Leaf as shown
 use Rattle.uhura_shows.specs.Leaf.{LeafShown}
 use Rattle.uhura_shows.specs.Cover.{IsCover, Covers}
-use Rattle.uhura_shows.specs.Shows.{Answer, is_denied_by, IsShownBy, AreNoProperFronts, Shows}
+use Rattle.uhura_shows.specs.Shows.{is_denied_by, IsShownBy, AreNoProperFronts, Shows}
 use Rattle.uhura_shows.proofs.Covering.{covers-all}
 use Rattle.uhura_shows.proofs.Leaves.{denied-allows_nothing, stuck-allows_nothing}
 use Rattle.uhura_search.specs.declared.leaf.LeafReason.{LeafReason}
@@ -24,7 +23,7 @@ use Rattle.uhura_search.specs.declared.leaf.LeafReason.TheVariants.{Denied, Empt
 use Rattle.uhura_search.specs.declared.leaf.LeafNote.{LeafNote}
 use Rattle.uhura_search.specs.declared.incumbent.Incumbent.{Incumbent}
 use Rattle.uhura_search.specs.Known.{IsStoreFor, answer_of, IsReached}
-use Rattle.uhura_search.specs.Shut.{IsDear, IsEnough, IsShutBy, IsReason, IsNoted}
+use Rattle.uhura_search.specs.Shut.{IsDear, IsShutBy, IsReason, IsNoted}
 use Rattle.uhura_search.specs.Answer.{shown_conflict, shown_reason, shown_leaf, shown_leaves}
 use Rattle.uhura_search.specs.Appended.{prefixes_of, AppendsCover}
 use Rattle.uhura_search.proofs.Showing.{IsKnownAt, known-at, stuck-shown, flow-shown, empty-shown}

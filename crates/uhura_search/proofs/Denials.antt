@@ -1,5 +1,5 @@
 -- The first denial that denies is known by its name, since no two vetoes have one name.
-use Rattle.std.proofs.Common.{◌≡◌, ℕ, ◌<◌, List, [], length, get_or, map, Option, Some, None, true, false, bytes_eq, is_some, option_map, slice_get, unwrap_or, refl, sym, ap, ◌∙◌, subst, inl, inr, arith}
+use Rattle.std.proofs.Common.{◌≡◌, ℕ, ◌<◌, List, [], length, get_or, Option, Some, None, true, false, bytes_eq, is_some, option_map, slice_get, unwrap_or, refl, sym, ap, ◌∙◌, subst, inl, inr, arith}
 use Rattle.std.specs.Prelude.{Contains, IsTrue, find}
 use Rattle.std.specs.List.{position}
 use Rattle.std.specs.Option.{option_map_or}
@@ -10,10 +10,9 @@ use Rattle.std.proofs.lemmas.Map.Keys.{apart_from_distinct}
 use Rattle.std.proofs.lemmas.Option.{slice_get-get_or}
 use Rattle.std.proofs.lemmas.Slice.Eq.{bytes_eq-Decides}
 use Rattle.uhura_plan.proofs.Positions.{not_contained}
-use Rattle.uhura_choice.specs.declared.prefix.Pick.{Pick}
 use Rattle.uhura_veto.specs.declared.veto.Veto.{Veto}
 use Rattle.uhura_veto.specs.State.{State}
-use Rattle.uhura_veto.specs.Denial.{denies, denied_by}
+use Rattle.uhura_veto.specs.Denial.{denies}
 use Rattle.uhura_veto.specs.Find.{veto_named}
 use Rattle.uhura_veto.specs.Vetoes.{veto_name, veto_names, AreSoundVetoes}
 use Rattle.uhura_worst.proofs.FirstItems.{passes}
@@ -27,9 +26,9 @@ one-place vetoes i j name sound below under first second =
     elim (cases_eq i j) [
       | inl same ↦ same
       | inr differs ↦ elim (cases_lt i j) [
-            | inl less ↦ absurd (apart i j less (omega (arith, under, length-map vetoes veto_name)) first second)
-            | inr more ↦ absurd (apart j i (omega (arith, more, differs)) (omega (arith, below, length-map vetoes veto_name)) second first)
-          ]
+        | inl less ↦ absurd (apart i j less (omega (arith, under, length-map vetoes veto_name)) first second)
+        | inr more ↦ absurd (apart j i (omega (arith, more, differs)) (omega (arith, below, length-map vetoes veto_name)) second first)
+      ]
     ]
   where
     apart : (a b : ℕ) → a < b → b < length (veto_names vetoes) → get_or (veto_names vetoes) a [] ≡ name → get_or (veto_names vetoes) b [] ≡ name → ⊥

@@ -7,4 +7,5 @@ pub mod Ranks
 pub mod Reasons
 pub mod Showing
 pub mod Shown
+pub mod Still
 pub mod Walked

@@ -2,10 +2,12 @@
 use Rattle.std.proofs.Common.{◌≡◌, ℕ, List, Option, Some, None, inl, inr, sym, ap, ◌∙◌, subst, arith}
 use Rattle.std.specs.Prelude.{ℤ, pos, ◌≤ℤ◌, ◌⊎◌, IsTrue, IsFalse, option_map}
 use Rattle.std.proofs.lemmas.Int.{ints}
+use Rattle.std.proofs.Common.{Bool, true, false, is_some}
+use Rattle.std.specs.Bool.{MatchBool}
 use Rattle.uhura_choice.specs.declared.prefix.Pick.{Pick}
 use Rattle.uhura_veto.specs.State.{State}
 use Rattle.uhura_veto.specs.Denial.{denied_by}
-use Rattle.uhura_conflict.specs.declared.bound.Bound.TheVariants.{Nothing, Flow}
+use Rattle.uhura_conflict.specs.declared.bound.Bound.TheVariants.{Nothing, Flow, Stuck}
 use Rattle.uhura_conflict.specs.Learned.{Learned}
 use Rattle.uhura_conflict.specs.Store.{Stored, IsBest, AppliesAt, value_at, conflict_at, IsBefore}
 use Rattle.uhura_search.specs.declared.leaf.LeafReason.{LeafReason}
@@ -54,3 +56,34 @@ pub found-reason : (state : State) (store : Stored) (best : Option Incumbent) (p
     IsShutBy state store best prefix conflict → found ≡ option_map (λ c. LearnedOf c) (conflict_at store key) → FindsReason state store best prefix found
 found-reason state store best prefix key conflict found there shut is =
     subst (FindsReason state store best prefix) (sym (is ∙ ap (option_map (λ c. LearnedOf c)) there)) shut
+
+-- a denial shuts
+pub denied-shut : (state : State) (store : Stored) (best : Option Incumbent) (prefix : List Pick) (found : Option (List ℕ)) → found ≡ denied_by state.vetoes prefix → is_some found ≡ true →
+    IsShut state store best prefix
+denied-shut state store best prefix None is some = absurd (let never : ⊥ = cc in never)
+denied-shut state store best prefix (Some name) is some = record { reason = Denied name; is_reason = sym is }
+
+pub none-denied : (state : State) (prefix : List Pick) (found : Option (List ℕ)) → found ≡ denied_by state.vetoes prefix → is_some found ≡ false → denied_by state.vetoes prefix ≡ None
+none-denied state prefix None is none = sym is
+none-denied state prefix (Some name) is none = absurd (let never : ⊥ = cc in never)
+
+-- so does a firm cycle
+pub stuck-shut : (state : State) (store : Stored) (best : Option Incumbent) (prefix : List Pick) (key : ℕ) → IsBest store prefix (Stuck key) → IsShut state store best prefix
+stuck-shut state store best prefix key is = record { reason = LearnedOf is.conflict; is_reason = record { key = key; applies = is.there; enough = inl is.stuck } }
+
+-- a flow does where its value is enough
+pub flow-match : (test : Bool) (state : State) (store : Stored) (best : Option Incumbent) (prefix : List Pick) (value : ℤ) (key : ℕ) → denied_by state.vetoes prefix ≡ None → IsBest store prefix (Flow value key) →
+    MatchBool test (IsDear state.plan best prefix value) (IsDear state.plan best prefix value → ⊥) → MatchBool test (IsShut state store best prefix) (IsShut state store best prefix → ⊥)
+flow-match true state store best prefix value key denied is dear =
+    let c = is.1.conflict in
+    record {
+      reason = LearnedOf c;
+      is_reason = record { key = key; applies = is.1.there; enough = inr (is.0 key c is.1.there, subst (λ v. IsDear state.plan best prefix v) is.1.worth dear) };
+    }
+flow-match false state store best prefix value key denied is cheap = flow-open state store best prefix value key denied is cheap
+
+-- and the costs picked alone
+pub nothing-match : (test : Bool) (state : State) (store : Stored) (best : Option Incumbent) (prefix : List Pick) → denied_by state.vetoes prefix ≡ None → IsBest store prefix Nothing →
+    MatchBool test (IsDear state.plan best prefix (pos 0)) (IsDear state.plan best prefix (pos 0) → ⊥) → MatchBool test (IsShut state store best prefix) (IsShut state store best prefix → ⊥)
+nothing-match true state store best prefix denied is dear = record { reason = Empty; is_reason = dear }
+nothing-match false state store best prefix denied is cheap = nothing-open state store best prefix denied is cheap

@@ -1,17 +1,13 @@
 -- Leaves whose prefixes are shut for their reasons show the answer.
-use Rattle.std.proofs.Common.{◌≡◌, ℕ, ◌+◌, ◌<◌, ◌≤◌, List, [], ◌∷◌, length, get_or, map, Option, Some, None, true, false, Bool, cond, refl, sym, ap, ◌∙◌, subst, inl, inr, arith}
-use Rattle.std.specs.Prelude.{ℤ, pos, ◌+ℤ◌, ◌≤ℤ◌, All, AllPairs, Contains, IsTrue, IsFalse, IsSome, IfSome, ◌≢◌, ◌⊎◌, MatchBool}
-use Rattle.std.proofs.lemmas.Int.{ints}
-use Rattle.std.proofs.lemmas.List.Elements.{All-nil, All-map, All-contains, All-append, Contains-get_or}
-use Rattle.uhura_plan.specs.Sound.{IsSound}
+use Rattle.std.proofs.Common.{◌≡◌, ℕ, ◌+◌, ◌<◌, ◌≤◌, List, [], length, get_or, map, Option, None, true, false, Bool, cond, refl, sym, subst, arith}
+use Rattle.std.specs.Prelude.{ℤ, pos, ◌+ℤ◌, ◌≤ℤ◌, All, Contains, IsTrue, IsFalse, IsSome, IfSome, MatchBool}
+use Rattle.std.proofs.lemmas.List.Elements.{All-nil, All-map, All-contains, Contains-get_or}
 use Rattle.uhura_plan.specs.declared.key.EdgeKey.{EdgeKey}
 use Rattle.uhura_choice.specs.declared.prefix.Pick.{Pick}
-use Rattle.uhura_choice.specs.Branch.{IsEarlier, picked_cost}
-use Rattle.uhura_choice.specs.Order.{IsFrontOf}
+use Rattle.uhura_choice.specs.Branch.{picked_cost}
 use Rattle.uhura_net.specs.declared.edge.Edge.{Edge}
 use Rattle.uhura_net.specs.declared.place.Place.{Place}
 use Rattle.uhura_net.specs.declared.place.TheConstants.{PLACES}
-use Rattle.uhura_net.specs.Edges.{Edges, edge_at, no_edge}
 use Rattle.uhura_net.specs.Circulation.{edges_of, IsCirculation}
 use Rattle.uhura_net.specs.Optimal.{firm_edges}
 use Rattle.uhura_net.specs.Walk.{IsNegativeWalk}
@@ -21,9 +17,9 @@ use Rattle.uhura_worst.specs.Filled.{IsTableOf}
 use Rattle.uhura_dual.specs.Settled.{key_at}
 use Rattle.uhura_conflict.specs.Learned.{Learned, places_in, units_in, IsLearned, IsValid}
 use Rattle.uhura_conflict.specs.Literals.{AreLiteralsOf, Applies}
-use Rattle.uhura_conflict.specs.Store.{Stored, conflict_at, IsStore, AppliesAt, value_at}
+use Rattle.uhura_conflict.specs.Store.{Stored, AppliesAt, value_at}
 use Rattle.uhura_shows.specs.Carried.{IsKeyedCirculation, AreSettledKeys, value_of_pairs}
-use Rattle.uhura_shows.specs.Shows.{IsStuckBy, IsBoundedBy, shown_cost}
+use Rattle.uhura_shows.specs.Shows.{IsStuckBy, IsBoundedBy}
 use Rattle.uhura_shows.proofs.Keyed.{walk-keyed}
 use Rattle.std.proofs.lemmas.List.{get_or-map, length-map}
 use Rattle.uhura_shows.proofs.Lists.{All-from_map}

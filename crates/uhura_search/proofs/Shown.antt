@@ -1,18 +1,14 @@
 -- What a conflict that applies to a prefix shows there.
-use Rattle.std.proofs.Common.{◌≡◌, ℕ, ◌+◌, ◌<◌, ◌≤◌, List, [], ◌∷◌, length, get_or, map, Option, Some, None, true, false, Bool, cond, refl, sym, ap, ◌∙◌, subst, inl, inr, arith}
-use Rattle.std.specs.Prelude.{ℤ, All, AllPairs, Contains, IsTrue, IsFalse, IsSome, IfSome, ◌≢◌, ◌==◌, unwrap_or, slice_get, option_and_then}
+use Rattle.std.proofs.Common.{◌≡◌, ℕ, ◌+◌, ◌<◌, List, [], ◌∷◌, get_or, map, Option, Some, None, true, false, Bool, cond, refl, sym, ap, ◌∙◌, subst, inl, inr, arith}
+use Rattle.std.specs.Prelude.{All, AllPairs, Contains, IsTrue, IsSome, ◌≢◌, ◌==◌, option_and_then}
 use Rattle.std.specs.Option.{option_map_or}
-use Rattle.std.specs.List.{AllZip, list_all}
+use Rattle.std.specs.List.{AllZip}
 use Rattle.std.proofs.lemmas.Bool.{cases_eq, eq-eqb, ne_eqb}
 use Rattle.std.proofs.lemmas.Bool.Decides.{Decides-eqb}
-use Rattle.std.proofs.lemmas.Option.{none-some}
-use Rattle.std.proofs.lemmas.List.Elements.{All-nil, All-cons, All-head, All-tail, All-map, All-contains, Contains-get_or}
+use Rattle.std.proofs.lemmas.List.Elements.{All-head, All-tail, All-map, Contains-get_or}
 use Rattle.std.proofs.lemmas.List.Kept.{AllPairs-cons}
 use Rattle.std.proofs.lemmas.List.Sums.{list_all-from_AllPass}
 use Rattle.uhura_plan.specs.Find.{requirement_in}
-use Rattle.uhura_plan.specs.Lists.{Lists}
-use Rattle.uhura_plan.specs.Sound.{IsSound}
-use Rattle.uhura_plan.specs.declared.guard.Literal.{Literal}
 use Rattle.uhura_plan.specs.declared.key.Item.{Item}
 use Rattle.uhura_plan.specs.declared.key.Item.TheVariants as item
 use Rattle.uhura_plan.specs.declared.key.EdgeKey.{EdgeKey}
@@ -23,8 +19,7 @@ use Rattle.uhura_choice.specs.Branch.{holds, is_picked}
 use Rattle.uhura_net.specs.declared.edge.Edge.{Edge}
 use Rattle.uhura_net.specs.declared.place.Place.{Place}
 use Rattle.uhura_net.specs.declared.place.TheConstants.{PLACES}
-use Rattle.uhura_net.specs.Place.{place_number, HasPlace, StandsAt, is_loose, is_loose_key}
-use Rattle.uhura_net.specs.Edges.{Edges}
+use Rattle.uhura_net.specs.Place.{place_number, HasPlace, StandsAt, is_loose}
 use Rattle.uhura_net.specs.Circulation.{edges_of}
 use Rattle.uhura_net.specs.Optimal.{firm_edges}
 use Rattle.uhura_net.proofs.Keys as keys
@@ -36,8 +31,8 @@ use Rattle.uhura_worst.proofs.FirstItems.{passes}
 use Rattle.uhura_worst.proofs.SoundItems.{Contains-found}
 use Rattle.uhura_dual.specs.Settled.{key_at}
 use Rattle.uhura_dual.proofs.KeysAt.{key_at-place_number}
-use Rattle.uhura_conflict.specs.Learned.{Learned, places_in, units_in, AreRising}
-use Rattle.uhura_conflict.specs.Literals.{slot_of, slot_of_item, Asks, HasPlaceAmong, AreLiteralsOf, AreAllPicked}
+use Rattle.uhura_conflict.specs.Learned.{units_in, AreRising}
+use Rattle.uhura_conflict.specs.Literals.{slot_of, slot_of_item, HasPlaceAmong, AreLiteralsOf, AreAllPicked}
 use Rattle.uhura_shows.proofs.Keyed.{IsFirmPlace}
 use Rattle.uhura_shows.proofs.Pairs.{pair_units, ArePlacedPairs, ListUnits}
 use Rattle.uhura_shows.proofs.Lists.{pairs-head, pairs-tail}
@@ -109,9 +104,10 @@ module _ (state : State) (table : List (Option Edge)) (is_table : IsTableOf stat
       AllZip (IsFirmPlace state (firm_edges (edges_of table))) places (map (λ (place : Place). key_at place.0) places)
   firm-places [] inside there = tt
   firm-places (place ∷ places) inside there =
-      let here : place.0 < PLACES = All-head (λ (p : Place). p.0 < PLACES) place places inside in
-      (firm-place place here (All-head (λ (p : Place). IsSome (firm_edges (edges_of table) p.0)) place places there),
-      firm-places places (All-tail (λ (p : Place). p.0 < PLACES) place places inside) (All-tail (λ (p : Place). IsSome (firm_edges (edges_of table) p.0)) place places there))
+      let here : place.0 < PLACES = All-head (λ (p : Place). p.0 < PLACES) place places inside in (
+        firm-place place here (All-head (λ (p : Place). IsSome (firm_edges (edges_of table) p.0)) place places there),
+        firm-places places (All-tail (λ (p : Place). p.0 < PLACES) place places inside) (All-tail (λ (p : Place). IsSome (firm_edges (edges_of table) p.0)) place places there),
+      )
 
 -- the pairs by key
 abbrev pub keyed_pairs : List (Place × ℕ) → List (EdgeKey × ℕ)

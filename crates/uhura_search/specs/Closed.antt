@@ -22,3 +22,9 @@ AreAllShut choices Shut = (branch : List Pick) → IsBranch choices branch → H
 -- none that begins the prefix is shorter
 abbrev pub NoneAbove : Prefixes → List Pick → Type 0
 NoneAbove Shut prefix = (front : List Pick) → IsFrontOf front prefix → Shut front → front ≡ prefix
+
+-- the prefix is one of them that begins the branch, and none of them that does is shorter
+pub record IsShortestFront (Shut : Prefixes) (branch prefix : List Pick) : Type 0 where
+  pub begins : IsFrontOf prefix branch
+  pub shut : Shut prefix
+  pub above : NoneAbove Shut prefix

@@ -1,6 +1,5 @@
 -- What is to be known when leaves are made: of the store, and of the best so far.
 use Rattle.std.specs.Prelude.{◌≡◌, ℕ, Option, None, Some, IfSome}
-use Rattle.uhura_net.specs.Circulation.{edges_of}
 use Rattle.uhura_veto.specs.State.{State}
 use Rattle.uhura_worst.specs.Filled.{IsTableOf}
 use Rattle.uhura_worst.specs.Proposal.{Proposal}

@@ -1,5 +1,5 @@
 -- Which prefixes are shut: none of their branches has a better answer than the best so far.
-use Rattle.std.specs.Prelude.{◌≡◌, ◌⊎◌, ℕ, ◌+◌, ◌≤◌, ◌^◌, ℤ, pos, ◌+ℤ◌, ◌-ℤ◌, ◌≤ℤ◌, List, Option, None, Some, IsTrue, IsFalse}
+use Rattle.std.specs.Prelude.{◌≡◌, ◌⊎◌, ℕ, ◌+◌, ◌<◌, ◌≤◌, ◌^◌, ℤ, pos, ◌+ℤ◌, ◌-ℤ◌, ◌≤ℤ◌, List, Option, None, Some, IsTrue, IsFalse}
 use Rattle.uhura_plan.specs.Lists.{Lists}
 use Rattle.uhura_choice.specs.declared.prefix.Pick.{Pick}
 use Rattle.uhura_choice.specs.Branch.{IsEarlier, picked_cost}
@@ -20,6 +20,11 @@ IsSmallCost best = best.cost ≤ 2 ^ 100
 -- what is left of the cost of the best so far when the picks are paid
 abbrev pub left_of : Lists → Incumbent → List Pick → ℤ
 left_of plan best prefix = pos best.cost -ℤ pos (picked_cost plan.choices prefix)
+
+-- the one costs less, or as much with an earlier branch
+abbrev pub IsBetter : Incumbent → Incumbent → Type 0
+IsBetter one other =
+    (one.cost < other.cost) ⊎ ((one.cost ≡ other.cost) × IsEarlier one.branch other.branch)
 
 -- What a prefix has to cost so that it has nothing better than the best so far: as much, and more where it is earlier
 -- than the best branch. No proper prefix of that branch may cost so.

@@ -3,7 +3,7 @@ ghost use Rattle.std.specs.Prelude.{◌≡◌, IfOk, IfSome, MatchBool, option_m
 ghost use Rattle.uhura_choice.specs.Branch.{IsBranch, IsPrefix};
 ghost use Rattle.uhura_veto.specs.State.{State};
 ghost use Rattle.uhura_conflict.specs.Store.{conflict_at};
-ghost use Rattle.uhura_search.specs.Shut.{IsSmallCost, IsDear, IsEnough, FindsReason, left_of};
+ghost use Rattle.uhura_search.specs.Shut.{IsSmallCost, IsDear, IsEnough, IsShut, FindsReason, left_of};
 
 use crate::LeafReason;
 use crate::incumbent::Incumbent;
@@ -47,6 +47,31 @@ pub(crate) fn reason_of(
                 Ok(None)
             }
         }
+    }
+}
+
+/// Whether the prefix is shut. It takes no memory.
+pub(crate) fn is_shut(
+    plan: &Plan,
+    vetoes: &Vetoes,
+    store: &Store,
+    best: &Option<Incumbent>,
+    prefix: &Prefix,
+) -> bool
+    requires prefix { IsPrefix plan.now.choices prefix.now }
+    requires branch { IfSome best.now (λ i. IsBranch plan.now.choices i.branch) }
+    requires small { IfSome best.now IsSmallCost }
+    ensures { let state : State = record { plan = plan.now; vetoes = vetoes.now } in
+        MatchBool result (IsShut state store.now best.now prefix.now)
+        (IsShut state store.now best.now prefix.now → ⊥) }
+{
+    if denied_by(vetoes, prefix).is_some() {
+        return true;
+    }
+    match store.best(prefix) {
+        Bound::Stuck { .. } => true,
+        Bound::Flow { value, .. } => is_dear(plan, best, prefix, value),
+        Bound::Nothing => is_dear(plan, best, prefix, 0),
     }
 }
 
