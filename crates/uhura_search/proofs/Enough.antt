@@ -50,7 +50,7 @@ pub less-not_enough : (plan : Lists) (best : Incumbent) (prefix : List Pick) (va
 less-not_enough plan best prefix value less enough = let least = enough.least in omega (arith, ints)
 
 -- two of which the one begins the other, and that are as long, are the same
-front-same : (one other : List Pick) → IsFrontOf one other → length one ≡ length other → one ≡ other
+pub front-same : (one other : List Pick) → IsFrontOf one other → length one ≡ length other → one ≡ other
 front-same one other (rest, is) long =
     by_rest rest is (omega (arith, long, ap length is ∙ length-append one rest))
   where

@@ -5,6 +5,7 @@ pub mod Enough
 pub mod Found
 pub mod Ranks
 pub mod Reasons
+pub mod Shorter
 pub mod Showing
 pub mod Shown
 pub mod Still

@@ -28,3 +28,7 @@ pub record IsShortestFront (Shut : Prefixes) (branch prefix : List Pick) : Type 
   pub begins : IsFrontOf prefix branch
   pub shut : Shut prefix
   pub above : NoneAbove Shut prefix
+
+-- none of them begins the branch
+abbrev pub NoneBegins : Prefixes → List Pick → Type 0
+NoneBegins Shut branch = (front : List Pick) → IsFrontOf front branch → Shut front → ⊥

@@ -5,6 +5,7 @@
 
 mod closing;
 mod cover;
+mod fronts;
 mod incumbent;
 pub mod laws;
 mod leaf;
