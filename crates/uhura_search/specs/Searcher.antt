@@ -37,7 +37,8 @@ pub record KeptChoice : Type 0 where
   pub costs : List ℕ
 
 abbrev pub kept_choice : Choice → KeptChoice
-kept_choice choice = record { guard = choice.guard; costs = map (λ pair. pair.1) choice.alternatives }
+kept_choice choice =
+    record { guard = choice.guard; costs = map (λ pair. pair.1) choice.alternatives }
 
 -- what is kept of the vetoes: the denials in order, each with its name
 abbrev pub denial_of : Veto → Option (List ℕ × List Literal)
@@ -74,7 +75,8 @@ pub record StandsFor (searcher : Searched) (state : State) : Type 0 where
 pub record IsSolvedAt (searcher : Searched) (state : State) (branch : List Pick)
     (potentials : List ℤ) : Type 0 where
   pub edges : AreAllSettled state branch (edges_of searcher.net.edges)
-  pub optimal : IsOptimal (edges_of searcher.net.edges) (units_of searcher.net.units) (time_at potentials)
+  pub optimal : IsOptimal (edges_of searcher.net.edges) (units_of searcher.net.units)
+      (time_at potentials)
 
 abbrev pub IsLeftSolved : Searched → State → Outcome → Type 0
 IsLeftSolved searcher state (outcome.Found branch all potentials leaves) =
@@ -86,8 +88,8 @@ pub record IsAsked (searcher : Searched) (state : State) (given : Outcome) : Typ
   pub answer : IsAnswerTo state given
   pub solved : IsLeftSolved searcher state given
 
--- What a searcher keeps true: each edge of the flow is one of the table; each conflict is valid for the table, and has
--- the literals of its requirements; and where the last answer stands, it is the answer for whatever the searcher
+-- What a searcher keeps true: each edge of the flow is one of the table; each conflict is valid for the table, and
+-- has the literals of its requirements; and where the last answer stands, it is the answer for whatever the searcher
 -- stands for.
 pub record IsSearcher (searcher : Searched) : Type 0 where
   pub store : IsStore searcher.store
@@ -95,7 +97,8 @@ pub record IsSearcher (searcher : Searched) : Type 0 where
   pub present : (place : ℕ) (edge : Edge) → edges_of searcher.net.edges place ≡ Some edge →
       edges_of searcher.store.table place ≡ Some edge
   pub literals : (state : State) → StandsFor searcher state → (key : ℕ) →
-      IfSome (conflict_at searcher.store key) (λ c. AreLiteralsOf state.plan (places_in c.pairs) c.literals)
+      IfSome (conflict_at searcher.store key)
+      (λ c. AreLiteralsOf state.plan (places_in c.pairs) c.literals)
   pub kept : IsTrue searcher.stands → IsSome searcher.answer
   pub answer : (state : State) → StandsFor searcher state → IsTrue searcher.stands →
       IfSome searcher.answer (IsAsked searcher state)
@@ -149,7 +152,8 @@ IsLeftOver result full new =
     OnOk result ((count : ℕ) × Trims full new most_pairs count) × OnErr result (new ≡ full)
 
 -- A question adds some conflicts, each counted, and the flow is read or found stuck as often or once more.
-pub record Asks (old new : Searched) (plan : Lists) (result : Result Outcome AllocError) : Type 0 where
+pub record Asks (old new : Searched) (plan : Lists) (result : Result Outcome AllocError)
+    : Type 0 where
   pub learned : List Learned
   pub full : Stored
   pub adds : AddsAll plan.choices old.store learned full
@@ -202,8 +206,9 @@ pub record IsWithoutReguarded (old new : Searched) (table : List (Option Edge)) 
   pub same : (place : ℕ) → (IsReguarded old new place → ⊥) →
       edges_of table place ≡ edges_of new.store.table place
 
--- A revision gives up the conflicts that lose an edge, can't carry their units any more, or are firm cycles whose bounds
--- no longer sum below 0: first over the table without the edges of slots whose guard is another, then over the whole.
+-- A revision gives up the conflicts that lose an edge, can't carry their units any more, or are firm cycles whose
+-- bounds no longer sum below 0: first over the table without the edges of slots whose guard is another, then over the
+-- whole.
 pub record IsRevised (old new : Searched) (state : State) : Type 0 where
   pub stands_for : StandsFor new state
   pub without : List (Option Edge)

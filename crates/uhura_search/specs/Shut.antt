@@ -28,7 +28,8 @@ IsBetter one other =
 
 -- What a prefix has to cost so that it has nothing better than the best so far: as much, and more where it is earlier
 -- than the best branch. No proper prefix of that branch may cost so.
-pub record IsEnough (plan : Lists) (best : Incumbent) (prefix : List Pick) (value : ℤ) : Type 0 where
+pub record IsEnough (plan : Lists) (best : Incumbent) (prefix : List Pick) (value : ℤ)
+    : Type 0 where
   pub whole : IsFrontOf prefix best.branch → prefix ≡ best.branch
   pub least : pos best.cost ≤ℤ (value +ℤ pos (picked_cost plan.choices prefix))
   pub more : IsEarlier prefix best.branch →

@@ -18,7 +18,7 @@ use uhura_conflict::Store;
 use uhura_plan::Plan;
 use uhura_veto::Vetoes;
 
-/// Leaves that show the best so far: where each branch has a prefix that is shut, the leaves are the shortest of them.
+/// Leaves that show the best so far. Each branch has a prefix that is shut, and the leaves are the shortest of these.
 pub(crate) fn leaves_of(
     alloc: Global,
     plan: &Plan,

@@ -12,8 +12,8 @@ ghost use Rattle.uhura_shows.specs.Shows.{Shows};
 ghost use Rattle.uhura_search.specs.declared.leaf.LeafNote.{LeafNote};
 ghost use Rattle.uhura_search.specs.Answer.{IsFoundFor, shown_leaves};
 
-/// What is read off the potentials of an answer is allowed in whole units; nothing that is allowed, whole or in k-ths,
-/// costs less, and nothing that costs the same has an earlier branch.
+/// What is read off the potentials of an answer is allowed in whole units; nothing that is allowed, whole or in
+/// k-ths, costs less, and nothing that costs the same has an earlier branch.
 pub fn found_answers_are_the_first_of_the_cheapest()
     ensures cheapest { (state : State) (branch : List Pick) (all : ℕ) (potentials : List ℤ)
         (leaves : List LeafNote) → IsSound state.plan →
