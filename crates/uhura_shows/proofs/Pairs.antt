@@ -75,7 +75,7 @@ weighed_by weight [] = pos 0
 weighed_by weight (pair ∷ pairs) = (pos pair.1 *ℤ weight (place_number pair.0)) +ℤ weighed_by weight pairs
 
 -- the units that the pairs give the edge at a place, and 0 where they don't name it
-pub pair_units : List (EdgeKey × ℕ) → ℕ → ℕ
+unfoldable pub pair_units : List (EdgeKey × ℕ) → ℕ → ℕ
 pair_units [] place = 0
 pair_units (pair ∷ pairs) place = cond (eqb (place_number pair.0) place) pair.1 (pair_units pairs place)
 

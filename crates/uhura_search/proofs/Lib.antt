@@ -1,0 +1,12 @@
+pub mod Answering
+pub mod Appending
+pub mod Denials
+pub mod Enough
+pub mod Found
+pub mod Ranks
+pub mod Reasons
+pub mod Shorter
+pub mod Showing
+pub mod Shown
+pub mod Still
+pub mod Walked

@@ -1,0 +1,38 @@
+//! The shortest prefix of a branch that is shut.
+ghost use Rattle.std.specs.Prelude.{IfSome, MatchOption};
+ghost use Rattle.uhura_choice.specs.Branch.{IsBranch};
+ghost use Rattle.uhura_veto.specs.State.{State};
+ghost use Rattle.uhura_search.specs.Shut.{IsSmallCost, IsShut};
+ghost use Rattle.uhura_search.specs.Closed.{IsShortestFront, NoneBegins};
+
+use crate::incumbent::Incumbent;
+use crate::shut::is_shut;
+use uhura_choice::{Branch, Prefix};
+use uhura_conflict::Store;
+use uhura_plan::Plan;
+use uhura_shows::front_of;
+use uhura_veto::Vetoes;
+
+/// The shortest prefix of the branch that is shut, if one is. It takes no memory.
+pub(crate) fn shut_front(
+    plan: &Plan,
+    vetoes: &Vetoes,
+    store: &Store,
+    best: &Option<Incumbent>,
+    branch: &Branch,
+) -> Option<Prefix>
+    requires is_branch { IsBranch plan.now.choices branch.now }
+    requires branch { IfSome best.now (λ i. IsBranch plan.now.choices i.branch) }
+    requires small { IfSome best.now IsSmallCost }
+    ensures { let state : State = record { plan = plan.now; vetoes = vetoes.now } in
+        MatchOption result (NoneBegins (IsShut state store.now best.now) branch.now)
+        (IsShortestFront (IsShut state store.now best.now) branch.now) }
+{
+    for len in 0..branch.entries().len() + 1 {
+        let prefix = front_of(plan, branch, len);
+        if is_shut(plan, vetoes, store, best, &prefix) {
+            return Some(prefix);
+        }
+    }
+    None
+}

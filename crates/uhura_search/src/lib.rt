@@ -1,0 +1,16 @@
+//! The answer to a question: the branch of a cheapest proposal, with leaves that show it (`specs/Answer.antt`). The
+//! branches are walked in order, and those of a prefix that is shut (`specs/Shut.antt`) are passed at once; then
+//! leaves cover them all (`specs/Appended.antt`). What is learned is kept for later questions (`specs/Searcher.antt`).
+#![tactic(auto)]
+
+mod closing;
+mod cover;
+mod fronts;
+mod incumbent;
+pub mod laws;
+mod leaf;
+mod outcome;
+mod shut;
+
+pub use leaf::{LeafNote, LeafReason};
+pub use outcome::Outcome;
