@@ -15,7 +15,25 @@ use Rattle.uhura_conflict.specs.declared.entry.Entry.{Entry}
 use Rattle.uhura_conflict.specs.Learned.{Learned}
 use Rattle.uhura_conflict.specs.Literals.{Applies}
 use Rattle.uhura_conflict.specs.Store.{Applying, NoCycle, IsFirstCycle, IsBefore, IsGreatestFlow, IsBestAmong, AppliesAt, conflict_at, value_at}
-use Rattle.uhura_conflict.specs.Entries.{conflict_of, shown_as, IsWorth, AreWorth, exceeds, with_cycle, with_flow, with_entry}
+use Rattle.uhura_conflict.specs.Entries.{conflict_of, shown_as, IsWorth, AreWorth, exceeds, bound_of}
+
+-- a firm cycle under a later key comes where there was none
+abbrev with_cycle : Bound → ℕ → Bound
+with_cycle (Stuck first) key = Stuck first
+with_cycle (Flow value first) key = Stuck key
+with_cycle Nothing key = Stuck key
+
+-- a flow under a later key comes where it is worth more than what there was
+abbrev with_flow : Bound → ℤ → ℕ → Bound
+with_flow (Stuck first) value key = Stuck first
+with_flow (Flow most first) value key =
+    cond (int_lt most value) (Flow value key) (Flow most first)
+with_flow Nothing value key = cond (int_lt (pos 0) value) (Flow value key) Nothing
+
+-- what is known where the entry under a later key applies
+abbrev with_entry : Bound → Entry → ℕ → Bound
+with_entry best entry key =
+    cond entry.conflict.stuck (with_cycle best key) (with_flow best entry.value key)
 
 -- those under the keys below one
 abbrev pub Below : ℕ → Applying → Applying
@@ -192,6 +210,17 @@ unexceeded Nothing entry n none = kept_by (Stuck n) (Flow entry.value n) Nothing
 unexceeded (Flow most first) entry n none = kept_by (Stuck n) (Flow entry.value n) (Flow most first) entry.conflict.stuck (int_lt most entry.value) none
 unexceeded (Stuck first) entry n none = same_by (Stuck first) entry.conflict.stuck
 
+-- and what would, comes in its place
+comes_by : {X : Type 0} (a b c : X) (one other : Bool) → (one || other) ≡ true → cond one a (cond other b c) ≡ cond one a b
+comes_by a b c true other some = refl
+comes_by a b c false true some = refl
+comes_by a b c false false some = absurd (cc)
+
+exceeded : (best : Bound) (entry : Entry) (n : ℕ) → exceeds best entry ≡ true → with_entry best entry n ≡ bound_of entry n
+exceeded Nothing entry n some = comes_by (Stuck n) (Flow entry.value n) Nothing entry.conflict.stuck (int_lt (pos 0) entry.value) some
+exceeded (Flow most first) entry n some = comes_by (Stuck n) (Flow entry.value n) (Flow most first) entry.conflict.stuck (int_lt most entry.value) some
+exceeded (Stuck first) entry n some = absurd (cc)
+
 -- what is the best where the conflict under a key applies is the best
 best-lift : (at : Applying) (values : Learned → ℤ) (n : ℕ) (best : Bound) → ((c : Learned) → at n c → IsBestAmong (Below (n + 1) at) values best) → IsBestAmong (Below n at) values best →
     IsBestAmong (Below (n + 1) at) values best
@@ -250,7 +279,7 @@ module _ (entries : Slab Entry) (order : List ℕ) (table : List (Option Edge)) 
       (record { there = shown_at entries order table n ∙ ap conflict_of is; applies = applies }) (λ c at. some_same (shown_here n (Some entry) c is at)) best flow so_far)
 
   -- an entry that applies
-  pub best-with_entry : (n : ℕ) (entry : Entry) (best : Bound) → get entries n ≡ Some entry → Applies picks entry.conflict → AreWorth entries table →
+  best-with_entry : (n : ℕ) (entry : Entry) (best : Bound) → get entries n ≡ Some entry → Applies picks entry.conflict → AreWorth entries table →
       IsBestAmong (Below n (AppliesAt (shown_as entries order table) picks)) (value_at (shown_as entries order table)) best →
       IsBestAmong (Below (n + 1) (AppliesAt (shown_as entries order table) picks)) (value_at (shown_as entries order table)) (with_entry best entry n)
   best-with_entry n entry best is applies worth so_far =
@@ -263,6 +292,14 @@ module _ (entries : Slab Entry) (order : List ℕ) (table : List (Option Edge)) 
   best-without_entry n entry best is never so_far =
       best-passed (AppliesAt (shown_as entries order table) picks) (value_at (shown_as entries order table)) n best
       (λ c at. never (subst (λ (x : Learned). Applies picks x) (some_same (shown_here n (Some entry) c is at)) at.applies)) so_far
+
+  -- one that applies and changes what is known
+  pub best-exceeded : (n : ℕ) (entry : Entry) (best : Bound) → get entries n ≡ Some entry → Applies picks entry.conflict → exceeds best entry ≡ true → AreWorth entries table →
+      IsBestAmong (Below n (AppliesAt (shown_as entries order table) picks)) (value_at (shown_as entries order table)) best →
+      IsBestAmong (Below (n + 1) (AppliesAt (shown_as entries order table) picks)) (value_at (shown_as entries order table)) (bound_of entry n)
+  best-exceeded n entry best is applies more worth so_far =
+      subst (λ b. IsBestAmong (Below (n + 1) (AppliesAt (shown_as entries order table) picks)) (value_at (shown_as entries order table)) b) (exceeded best entry n more)
+      (best-with_entry n entry best is applies worth so_far)
 
   -- one that would not change what is known
   pub best-unexceeded : (n : ℕ) (entry : Entry) (best : Bound) → get entries n ≡ Some entry → exceeds best entry ≡ false → AreWorth entries table →

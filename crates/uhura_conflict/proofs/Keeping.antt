@@ -16,13 +16,11 @@ use Rattle.uhura_conflict.specs.declared.entry.Entry.{Entry}
 use Rattle.uhura_conflict.specs.Learned.{Learned, IsLearned, IsValid}
 use Rattle.uhura_conflict.specs.Kept.{outlasts}
 use Rattle.uhura_conflict.specs.Store.{conflict_at, IsStore, Adds, if_it_outlasts, Revises, pairs_under, pairs_of, Trims}
-use Rattle.uhura_conflict.specs.Entries.{conflict_of, shown_as, is_held, IsWorth, AreWorth, RevisesAt, pairs_at, pairs_among}
+use Rattle.uhura_conflict.specs.Entries.{conflict_of, shown_as, IsHeldStore, IsKeptFor, IsUntouched, is_held, IsWorth, RevisesAt, pairs_at, pairs_among}
 use Rattle.uhura_conflict.proofs.Greatest.{shown_at, true_false}
+use Rattle.uhura_conflict.specs.Marked.{AreMarked}
 use Rattle.uhura_conflict.proofs.Outlasting.{valid-outlasts}
-
--- what a store keeps, and the values beside it
-abbrev pub IsHeldStore : Slab Entry → List ℕ → List (Option Edge) → Type 0
-IsHeldStore entries order table = IsStore (shown_as entries order table) × AreWorth entries table
+use Rattle.uhura_conflict.proofs.Untouched.{AreUntouched, untouched-outlasts, untouched-worth}
 
 not_some : {X : Type 0} {found : Option X} → found ≡ None → IsSome found → ⊥
 not_some none some = true_false some (ap is_some none)
@@ -31,18 +29,23 @@ not_some none some = true_false some (ap is_some none)
 pub held-empty : (entries : Slab Entry) (order : List ℕ) (table : List (Option Edge)) → entries.slots ≡ [] → order ≡ [] → IsHeldStore entries order table
 held-empty entries order table no_slots no_order =
     let none : (key : ℕ) → get entries key ≡ None = λ key. ap (λ slots. get_or slots key None) no_slots in
-    let nothing : (key : ℕ) → conflict_at (shown_as entries order table) key ≡ None = λ key. shown_at entries order table key ∙ ap conflict_of (none key) in (
-      record {
+    let nothing : (key : ℕ) → conflict_at (shown_as entries order table) key ≡ None = λ key. shown_at entries order table key ∙ ap conflict_of (none key) in record {
+      sound = record {
         learned = λ key. subst (λ found. IfSome found IsLearned) (sym (nothing key)) tt;
         valid = λ key. subst (λ found. IfSome found (IsValid (edges_of table))) (sym (nothing key)) tt;
         listed = λ key. (λ among. absurd (no_key order key no_order among), λ some. absurd (not_some (nothing key) some));
         once = subst (λ keys. AllPairs ◌≢◌ keys) (sym no_order) (λ i j d before inside. absurd (omega arith));
-      },
-      λ key. subst (λ found. IfSome found (IsWorth table)) (sym (none key)) tt,
-    )
+      };
+      worth = λ key. subst (λ found. IfSome found (IsWorth table)) (sym (none key)) tt;
+    }
   where
     no_key : (order : List ℕ) (key : ℕ) → order ≡ [] → Contains order key → ⊥
     no_key order key none among = let here : Contains {X = ℕ} [] key = subst (λ keys. Contains keys key) none among in absurd (omega (arith, here.1))
+
+-- how much room there is says nothing of what is kept
+pub held-capacity : (entries : Slab Entry) (capacity : ℕ) (order : List ℕ) (table : List (Option Edge)) → IsHeldStore entries order table →
+    IsHeldStore (record entries { capacity = capacity }) order table
+held-capacity entries capacity order table held = record { sound = held.sound; worth = held.worth }
 
 -- a new entry comes
 module _ (old new : Slab Entry) (order : List ℕ) (table : List (Option Edge)) (key : ℕ) (entry : Entry) (free : get old key ≡ None) (updates : Updates old new key (Some entry)) where
@@ -67,32 +70,32 @@ module _ (old new : Slab Entry) (order : List ℕ) (table : List (Option Edge)) 
       ]
 
   pub held-added : IsHeldStore old order table → IsLearned entry.conflict → IsValid (edges_of table) entry.conflict → IsWorth table entry → IsHeldStore new (order ++ key ∷ []) table
-  held-added before learned valid worth = (
-    record {
-      learned = each IsLearned learned before.0.learned;
-      valid = each (IsValid (edges_of table)) valid before.0.valid;
+  held-added before learned valid worth = record {
+    sound = record {
+      learned = each IsLearned learned before.sound.learned;
+      valid = each (IsValid (edges_of table)) valid before.sound.valid;
       listed = λ other. (
         λ among. elim (Contains-push_cases order key other among) [
           | inl listed ↦
               elim (cases_eq other key) [
                 | inl same ↦ subst (λ k. IsSome (conflict_at (shown_as new (order ++ key ∷ []) table) k)) (sym same) (ap is_some shown_there)
-                | inr differs ↦ ap is_some (shown_other other differs) ∙ (before.0.listed other).0 listed
+                | inr differs ↦ ap is_some (shown_other other differs) ∙ (before.sound.listed other).0 listed
               ]
           | inr same ↦ subst (λ k. IsSome (conflict_at (shown_as new (order ++ key ∷ []) table) k)) same (ap is_some shown_there)
         ],
         λ some. elim (cases_eq other key) [
           | inl same ↦ subst (λ k. Contains (order ++ key ∷ []) k) (sym same) (Contains-push order key)
-          | inr differs ↦ Contains-append_left order (key ∷ []) other ((before.0.listed other).1 (sym (ap is_some (shown_other other differs)) ∙ some))
+          | inr differs ↦ Contains-append_left order (key ∷ []) other ((before.sound.listed other).1 (sym (ap is_some (shown_other other differs)) ∙ some))
         ],
       );
-      once = all_pairs_push ◌≢◌ order key before.0.once (λ k d inside same. not_some shown_free
-          ((before.0.listed key).0 (k, inside, get_or_default order k key d inside ∙ same)));
-    },
-    λ other. elim (cases_eq other key) [
+      once = all_pairs_push ◌≢◌ order key before.sound.once (λ k d inside same. not_some shown_free
+          ((before.sound.listed key).0 (k, inside, get_or_default order k key d inside ∙ same)));
+    };
+    worth = λ other. elim (cases_eq other key) [
       | inl same ↦ subst (λ k. IfSome (get new k) (IsWorth table)) (sym same) (subst (λ found. IfSome found (IsWorth table)) (sym updates.changed) worth)
-      | inr differs ↦ subst (λ found. IfSome found (IsWorth table)) (sym (updates.others other differs)) (before.1 other)
-    ],
-  )
+      | inr differs ↦ subst (λ found. IfSome found (IsWorth table)) (sym (updates.others other differs)) (before.worth other)
+    ];
+  }
 
 -- what a filter keeps
 keeps_at : (b : Bool) (y x : ℕ) (rest : List ℕ) → ((y ≡ x) ⊎ Contains rest x) → (y ≡ x → b ≡ true) → Contains (cond b (y ∷ rest) rest) x
@@ -158,8 +161,8 @@ module _ (old new : Slab Entry) (order kept : List ℕ) (from to : List (Option 
   found_at P key c holds is = subst (λ found. IfSome found P) is holds
 
   pub held-revised : IsStore (shown_as old order from) → IsHeldStore new kept to
-  held-revised before = (
-    record {
+  held-revised before = record {
+    sound = record {
       learned = λ key. subst (λ found. IfSome found IsLearned) (sym (shown_kept key))
           (kept_of from to IsLearned (conflict_at (shown_as old order from) key) (λ c is lasts. found_at IsLearned key c (before.learned key) is));
       valid = λ key. subst (λ found. IfSome found (IsValid (edges_of to))) (sym (shown_kept key))
@@ -172,9 +175,9 @@ module _ (old new : Slab Entry) (order kept : List ℕ) (from to : List (Option 
             subst (λ keys. Contains keys key) (sym ordered) (filter-keeps (is_held new) order key ((before.listed key).1 was) (held_is_some key ∙ some)),
       );
       once = subst (λ keys. AllPairs ◌≢◌ keys) (sym ordered) (AllPairs-filter ◌≢◌ (is_held new) order before.once);
-    },
-    λ key. (revised key).worth,
-  )
+    };
+    worth = λ key. (revised key).worth;
+  }
 
 -- how many pairs keys have
 pairs_shown : (found : Option Entry) → option_map_or (λ (c : Learned). length c.pairs) (conflict_of found) 0 ≡ option_map_or (λ (e : Entry). length e.conflict.pairs) found 0
@@ -205,7 +208,7 @@ module _ (old new : Slab Entry) (order : List ℕ) (table : List (Option Edge)) 
       let last : count + stays.0 < length order = omega (arith, stays.1, length-drop count order) in
       let here : get_or order goes.0 key ≡ key = sym (get_or-take count order goes.0 key first) ∙ goes.2 in
       let there : get_or order (count + stays.0) key ≡ key = sym (get_or-drop count order stays.0 key) ∙ stays.2 in
-      before.0.once goes.0 (count + stays.0) key (omega arith) last (here ∙ sym there)
+      before.sound.once goes.0 (count + stays.0) key (omega arith) last (here ∙ sym there)
 
   shown_either : (key : ℕ) → (conflict_at (shown_as new (drop count order) table) key ≡ None) ⊎ (conflict_at (shown_as new (drop count order) table) key ≡ conflict_at (shown_as old order table) key)
   shown_either key = elim (either key) [
@@ -230,7 +233,7 @@ module _ (old new : Slab Entry) (order : List ℕ) (table : List (Option Edge)) 
     | inl none ↦ absurd (not_some none some)
     | inr same ↦
         let listed : Contains (take count order ++ drop count order) key =
-        subst (λ keys. Contains keys key) (sym (take-append-drop count order)) ((before.0.listed key).1 (sym (ap is_some same) ∙ some)) in
+        subst (λ keys. Contains keys key) (sym (take-append-drop count order)) ((before.sound.listed key).1 (sym (ap is_some same) ∙ some)) in
         elim (Contains-append_cases (take count order) (drop count order) key listed) [
           | inl goes ↦ absurd (not_some (shown_gone key goes) some)
           | inr stays ↦ stays
@@ -241,21 +244,21 @@ module _ (old new : Slab Entry) (order : List ℕ) (table : List (Option Edge)) 
   was_listed key stays = subst (λ keys. Contains keys key) (take-append-drop count order) (Contains-append_right (take count order) (drop count order) key stays)
 
   pub held-left : IsHeldStore new (drop count order) table
-  held-left = (
-    record {
-      learned = each_left IsLearned before.0.learned;
-      valid = each_left (IsValid (edges_of table)) before.0.valid;
-      listed = λ key. (λ stays. ap is_some (shown_others key (apart key stays)) ∙ (before.0.listed key).0 (was_listed key stays), listed_left key);
+  held-left = record {
+    sound = record {
+      learned = each_left IsLearned before.sound.learned;
+      valid = each_left (IsValid (edges_of table)) before.sound.valid;
+      listed = λ key. (λ stays. ap is_some (shown_others key (apart key stays)) ∙ (before.sound.listed key).0 (was_listed key stays), listed_left key);
       once = λ i j d less inside.
           let within : count + j < length order = omega (arith, inside, length-drop count order) in
           subst (λ (n : ℕ). n ≢ get_or (drop count order) j d) (sym (get_or-drop count order i d))
-          (subst (λ (n : ℕ). get_or order (count + i) d ≢ n) (sym (get_or-drop count order j d)) (before.0.once (count + i) (count + j) d (omega arith) within));
-    },
-    λ key. elim (either key) [
+          (subst (λ (n : ℕ). get_or order (count + i) d ≢ n) (sym (get_or-drop count order j d)) (before.sound.once (count + i) (count + j) d (omega arith) within));
+    };
+    worth = λ key. elim (either key) [
       | inl none ↦ subst (λ found. IfSome found (IsWorth table)) (sym none) tt
-      | inr same ↦ subst (λ found. IfSome found (IsWorth table)) (sym same) (before.1 key)
-    ],
-  )
+      | inr same ↦ subst (λ found. IfSome found (IsWorth table)) (sym same) (before.worth key)
+    ];
+  }
 
   pairs_left : pairs_of (shown_as new (drop count order) table) (drop count order) ≡ pairs_among old (drop count order)
   pairs_left =
@@ -278,3 +281,58 @@ module _ (old new : Slab Entry) (order : List ℕ) (table : List (Option Edge)) 
     within = subst (λ n. n ≤ most) (sym pairs_left) within;
     fewest = λ fewer less. subst (λ n. most < n) (sym (pairs_before (drop fewer order))) (fewest fewer less);
   }
+
+-- what an entry keeps
+pub kept_for : (entries : Slab Entry) (order : List ℕ) (table : List (Option Edge)) → IsHeldStore entries order table → (key : ℕ) → IfSome (get entries key) (IsKeptFor table)
+kept_for entries order table held key =
+    at (get entries key) (subst (λ found. IfSome found IsLearned) (shown_at entries order table key) (held.sound.learned key))
+    (subst (λ found. IfSome found (IsValid (edges_of table))) (shown_at entries order table key) (held.sound.valid key)) (held.worth key)
+  where
+    at : (found : Option Entry) → IfSome (conflict_of found) IsLearned → IfSome (conflict_of found) (IsValid (edges_of table)) → IfSome found (IsWorth table) → IfSome found (IsKeptFor table)
+    at None learned valid worth = tt
+    at (Some entry) learned valid worth = record { learned = learned; valid = valid; worth = worth }
+
+-- a conflict that outlasts the change is kept
+kept_whole : (from to : List (Option Edge)) (c : Learned) → outlasts (edges_of from) (edges_of to) c ≡ true → if_it_outlasts from to c ≡ Some c
+kept_whole from to c lasts = ap (λ b. cond b (Some c) None) lasts
+
+-- an entry without a mark is revised as it stands
+untouched_here : (from to : List (Option Edge)) (changed : List Bool) (entry : Entry) → AreMarked from to changed → IsKeptFor from entry → IsUntouched changed entry →
+    AreUntouched (edges_of from) (edges_of to) entry.conflict.pairs
+untouched_here from to changed entry marked kept unmarked k d inside = marked.unmarked (get_or entry.conflict.pairs k d).0.0 (kept.learned.inside k d inside) (unmarked k d inside)
+
+pub untouched-revised : (entries : Slab Entry) (from to : List (Option Edge)) (changed : List Bool) (key : ℕ) → AreMarked from to changed → IfSome (get entries key) (IsKeptFor from) →
+    IfSome (get entries key) (IsUntouched changed) → RevisesAt entries entries from to key
+untouched-revised entries from to changed key marked kept unmarked =
+    record { conflict = same (get entries key) kept unmarked; worth = worth (get entries key) kept unmarked }
+  where
+    same : (found : Option Entry) → IfSome found (IsKeptFor from) → IfSome found (IsUntouched changed) → conflict_of found ≡ option_and_then (if_it_outlasts from to) (conflict_of found)
+    same None kept unmarked = refl
+    same (Some entry) kept unmarked =
+        sym (kept_whole from to entry.conflict
+        (untouched-outlasts (edges_of from) (edges_of to) entry.conflict marked.sound kept.learned kept.valid (untouched_here from to changed entry marked kept unmarked)))
+
+    worth : (found : Option Entry) → IfSome found (IsKeptFor from) → IfSome found (IsUntouched changed) → IfSome found (IsWorth to)
+    worth None kept unmarked = tt
+    worth (Some entry) kept unmarked = λ flow. kept.worth flow ∙ sym (untouched-worth (edges_of from) (edges_of to) entry.conflict.pairs (untouched_here from to changed entry marked kept unmarked))
+
+-- a filter that all pass
+filter-all : (p : ℕ → Bool) (xs : List ℕ) → ((x : ℕ) → Contains xs x → p x ≡ true) → filter p xs ≡ xs
+filter-all p [] passes = refl
+filter-all p (x ∷ xs) passes =
+    ap (λ b. cond b (x ∷ filter p xs) (filter p xs)) (passes x (0, omega arith, refl)) ∙ ap (λ rest. x ∷ rest) (filter-all p xs (λ y among. passes y (Contains-cons x y xs among)))
+
+-- where nothing changed, a store is revised as it stands
+pub unchanged-revises : (entries : Slab Entry) (order : List ℕ) (from to : List (Option Edge)) (changed : List Bool) → IsHeldStore entries order from → AreMarked from to changed → to ≡ from →
+    Revises (shown_as entries order from) (shown_as entries order from) to
+unchanged-revises entries order from to changed held marked same = record {
+  table = sym same;
+  conflicts = λ key. at (conflict_at (shown_as entries order from) key) (held.sound.learned key) (held.sound.valid key);
+  order = sym (filter-all (λ key. is_some (conflict_at (shown_as entries order from) key)) order (λ key among. (held.sound.listed key).0 among));
+}
+  where
+    at : (found : Option Learned) → IfSome found IsLearned → IfSome found (IsValid (edges_of from)) → found ≡ option_and_then (if_it_outlasts from to) found
+    at None learned valid = refl
+    at (Some c) learned valid =
+        sym (kept_whole from to c
+        (untouched-outlasts (edges_of from) (edges_of to) c marked.sound learned valid (λ k d inside. ap (λ table. edges_of table (get_or c.pairs k d).0.0) same)))

@@ -7,3 +7,6 @@ pub mod Passing
 pub mod Outlasting
 pub mod Keeping
 pub mod Untouched
+pub mod Differing
+pub mod Serving
+pub mod Using

@@ -105,7 +105,7 @@ has_room old new (pair ∷ pairs) place rising carried =
     ]
 
 -- with no units, or at the same node, there enter or leave as many
-same_term : (a b node units : ℕ) → (units ≡ 0) ⊎ (a ≡ b) → cond (eqb b node) units 0 ≡ cond (eqb a node) units 0
+pub same_term : (a b node units : ℕ) → (units ≡ 0) ⊎ (a ≡ b) → cond (eqb b node) units 0 ≡ cond (eqb a node) units 0
 same_term a b node units (inl none) = zeros (eqb b node) (eqb a node)
   where
     zeros : (p q : Bool) → cond p units 0 ≡ cond q units 0

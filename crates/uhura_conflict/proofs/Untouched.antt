@@ -107,9 +107,9 @@ still_all : (old new : Edges) (pairs : List (Place × ℕ)) → AreUntouched old
 still_all old new pairs same carried =
     list_all-from_AllPass (still_carries old new) pairs
     (λ k d inside.
-      let pair = get_or pairs k d in
-      let at = carried k d inside in
-      subst (λ found. carries (edge_at old pair.0.0) found pair.1 ≡ true) (sym (same k d inside)) (still_at (old pair.0.0) pair.1 at.there at.room))
+    let pair = get_or pairs k d in
+    let at = carried k d inside in
+    subst (λ found. carries (edge_at old pair.0.0) found pair.1 ≡ true) (sym (same k d inside)) (still_at (old pair.0.0) pair.1 at.there at.room))
 
 -- along a walk the edges are the same
 along : (old new : Edges) (pairs : List (Place × ℕ)) → AreUntouched old new pairs → edges_at new (places_in pairs) ≡ edges_at old (places_in pairs)
@@ -145,7 +145,7 @@ same_at old new (pair ∷ pairs) place same =
           ]
     ]
 
-same_worth : (units : ℕ) (old new : Option Edge) → (units ≡ 0) ⊎ (new ≡ old) → pos units *ℤ (unwrap_or new no_edge).bound ≡ pos units *ℤ (unwrap_or old no_edge).bound
+pub same_worth : (units : ℕ) (old new : Option Edge) → (units ≡ 0) ⊎ (new ≡ old) → pos units *ℤ (unwrap_or new no_edge).bound ≡ pos units *ℤ (unwrap_or old no_edge).bound
 same_worth units old new (inl none) =
     subst (λ n. pos n *ℤ (unwrap_or new no_edge).bound ≡ pos n *ℤ (unwrap_or old no_edge).bound) (sym none)
     (scaled-zero (unwrap_or new no_edge).bound ∙ sym (scaled-zero (unwrap_or old no_edge).bound))

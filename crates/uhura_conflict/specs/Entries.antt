@@ -1,14 +1,15 @@
 -- What the tables of a store show.
 use Rattle.std.specs.Option.{option_map_or}
-use Rattle.std.specs.Prelude.{◌≡◌, ℕ, ℤ, pos, int_lt, IsFalse, IfSome, List, map, sum, length, Option, option_map, option_and_then, Bool, false, ◌||◌, is_some, if◌then◌else◌}
+use Rattle.std.specs.Prelude.{◌≡◌, ℕ, pos, int_lt, IsFalse, IfSome, All, List, map, sum, length, Option, option_map, option_and_then, Bool, false, ◌||◌, is_some, if◌then◌else◌}
 use Rattle.slab.specs.Slab.{Slab, get}
 use Rattle.uhura_net.specs.declared.edge.Edge.{Edge}
 use Rattle.uhura_net.specs.Circulation.{edges_of}
 use Rattle.uhura_conflict.specs.declared.bound.Bound.{Bound}
 use Rattle.uhura_conflict.specs.declared.bound.Bound.TheVariants.{Nothing, Flow, Stuck}
 use Rattle.uhura_conflict.specs.declared.entry.Entry.{Entry}
-use Rattle.uhura_conflict.specs.Learned.{Learned, IsLearned, flow_value}
-use Rattle.uhura_conflict.specs.Store.{Stored, if_it_outlasts}
+use Rattle.uhura_conflict.specs.Learned.{Learned, IsLearned, IsValid, flow_value}
+use Rattle.uhura_conflict.specs.Marked.{IsUnmarked}
+use Rattle.uhura_conflict.specs.Store.{Stored, IsStore, if_it_outlasts}
 
 -- the conflict of an entry
 abbrev pub conflict_of : Option Entry → Option Learned
@@ -32,29 +33,21 @@ IsWorth table entry = IsFalse entry.conflict.stuck →
 abbrev pub AreWorth : Slab Entry → List (Option Edge) → Type 0
 AreWorth entries table = (key : ℕ) → IfSome (get entries key) (IsWorth table)
 
--- a firm cycle under a later key comes where there was none
-abbrev pub with_cycle : Bound → ℕ → Bound
-with_cycle (Stuck first) key = Stuck first
-with_cycle (Flow value first) key = Stuck key
-with_cycle Nothing key = Stuck key
-
--- a flow under a later key comes where it is worth more than what there was
-abbrev pub with_flow : Bound → ℤ → ℕ → Bound
-with_flow (Stuck first) value key = Stuck first
-with_flow (Flow most first) value key =
-    if int_lt most value then Flow value key else Flow most first
-with_flow Nothing value key = if int_lt (pos 0) value then Flow value key else Nothing
-
--- what is known where the entry under a later key applies
-abbrev pub with_entry : Bound → Entry → ℕ → Bound
-with_entry best entry key =
-    if entry.conflict.stuck then with_cycle best key else with_flow best entry.value key
+-- what a store keeps of its tables
+pub record IsHeldStore (entries : Slab Entry) (order : List ℕ) (table : List (Option Edge))
+    : Type 0 where
+  pub sound : IsStore (shown_as entries order table)
+  pub worth : AreWorth entries table
 
 -- an entry would change what is known, if it applies
 abbrev pub exceeds : Bound → Entry → Bool
 exceeds (Stuck first) entry = false
 exceeds (Flow most first) entry = entry.conflict.stuck || int_lt most entry.value
 exceeds Nothing entry = entry.conflict.stuck || int_lt (pos 0) entry.value
+
+-- what an entry tells
+abbrev pub bound_of : Entry → ℕ → Bound
+bound_of entry key = if entry.conflict.stuck then Stuck key else Flow entry.value key
 
 -- the entry under a key is kept where it outlasts the change of tables, and is worth what it is worth at the new one
 pub record RevisesAt (old new : Slab Entry) (from to : List (Option Edge)) (key : ℕ)
@@ -63,9 +56,15 @@ pub record RevisesAt (old new : Slab Entry) (from to : List (Option Edge)) (key 
       option_and_then (if_it_outlasts from to) (conflict_of (get old key))
   pub worth : IfSome (get new key) (IsWorth to)
 
--- each entry is learned
-abbrev pub AreLearned : Slab Entry → Type 0
-AreLearned entries = (key : ℕ) → IfSome (get entries key) (λ e. IsLearned e.conflict)
+-- the conflict of an entry is valid for the table, at which the entry is worth its value
+pub record IsKeptFor (table : List (Option Edge)) (entry : Entry) : Type 0 where
+  pub learned : IsLearned entry.conflict
+  pub valid : IsValid (edges_of table) entry.conflict
+  pub worth : IsWorth table entry
+
+-- no mark stands at a place of the entry
+abbrev pub IsUntouched : List Bool → Entry → Type 0
+IsUntouched changed entry = All (IsUnmarked changed) entry.conflict.pairs
 
 -- how many pairs the entry under a key has, and those under some keys together
 abbrev pub pairs_at : Slab Entry → ℕ → ℕ

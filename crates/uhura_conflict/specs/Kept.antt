@@ -24,8 +24,8 @@ still_carries old new pair = carries (edge_at old pair.0.0) (new pair.0.0) pair.
 abbrev pub sums_below_zero : Edges → List Place → Bool
 sums_below_zero edges places = int_lt (bounds_of (edges_at edges places)) (pos 0)
 
--- a conflict outlasts the change where no edge of it is gone, each can carry its units, and, if it is a firm cycle, its
--- bounds still sum below 0
+-- a conflict outlasts the change where no edge of it is gone, each can carry its units, and, if it is a firm cycle,
+-- its bounds still sum below 0
 abbrev pub outlasts : Edges → Edges → Learned → Bool
 outlasts old new conflict = list_all (still_carries old new) conflict.pairs
     && (if conflict.stuck then sums_below_zero new (places_in conflict.pairs) else true)

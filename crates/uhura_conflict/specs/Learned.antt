@@ -1,16 +1,18 @@
--- What was learned of branches: a circulation, whose value bounds their costs from below, or a walk that no times keep.
-use Rattle.std.specs.Prelude.{◌≡◌, ℕ, ◌+◌, ◌==◌, ◌<◌, ◌≤◌, ℤ, Bool, IsTrue, IsFalse, if◌then◌else◌, List, [], ◌∷◌, map, length, Option}
+-- What was learned of branches: a circulation, whose value bounds their costs from below, or a walk that no times
+-- keep.
+use Rattle.std.specs.Prelude.{◌≡◌, ℕ, ◌+◌, ◌==◌, ◌<◌, ◌≤◌, ℤ, Bool, IsTrue, IsFalse, if◌then◌else◌, List, [], ◌∷◌, map, length, Option, Some}
 use Rattle.std.specs.Bool.{MatchBool}
 use Rattle.std.specs.List.{All, AllPairs}
 use Rattle.uhura_net.specs.declared.place.Place.{Place}
 use Rattle.uhura_net.specs.declared.place.TheConstants.{PLACES}
+use Rattle.uhura_net.specs.declared.edge.Edge.{Edge}
 use Rattle.uhura_net.specs.Edges.{Edges}
 use Rattle.uhura_net.specs.Walk.{IsNegativeWalk}
 use Rattle.uhura_net.specs.Circulation.{Units, IsCirculation, value_of}
 use Rattle.uhura_net.specs.Optimal.{firm_edges}
 
--- a conflict: places with their units; whether it is a firm cycle, whose places are a walk, or a flow; and at the place
--- of each choice the alternative that it asks for, or nothing
+-- a conflict: places with their units; whether it is a firm cycle, whose places are a walk, or a flow; and at the
+-- place of each choice the alternative that it asks for, or nothing
 pub record Learned : Type 0 where
   pub pairs : List (Place × ℕ)
   pub stuck : Bool
@@ -51,9 +53,17 @@ IsValid edges conflict = MatchBool conflict.stuck
 
 -- the pairs give each place the units that it has, and stand for at least 1 each
 pub record AreUnitsOf (units : Units) (pairs : List (Place × ℕ)) : Type 0 where
-  pub same : (place : ℕ) → place < PLACES → units_in pairs place ≡ units place
+  pub same : (place : ℕ) → units_in pairs place ≡ units place
   pub some : All (λ pair. 1 ≤ pair.1) pairs
 
 -- what a flow is worth over edges: minus the sum of the bounds times the units
 abbrev pub flow_value : Edges → List (Place × ℕ) → ℤ
 flow_value edges pairs = value_of PLACES edges (units_in pairs)
+
+-- the edges of the one are among those of the other
+abbrev pub AreAmong : Edges → Edges → Type 0
+AreAmong some all = (place : ℕ) (edge : Edge) → some place ≡ Some edge → all place ≡ Some edge
+
+-- the places of a walk, each with 1 unit
+abbrev pub walk_pairs : List Place → List (Place × ℕ)
+walk_pairs cycle = map (λ place. (place, 1)) cycle

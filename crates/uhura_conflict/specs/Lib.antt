@@ -1,6 +1,8 @@
 pub mod Learned
+pub mod Used
 pub mod Literals
 pub mod Gathered
+pub mod Marked
 pub mod Worth
 pub mod Kept
 pub mod Store

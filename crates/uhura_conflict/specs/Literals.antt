@@ -69,6 +69,16 @@ pub record AreUsedTogether (plan : Lists) (units : Units) : Type 0 where
   pub active : (place : ℕ) (r : requirement.Requirement) → place < PLACES → 1 ≤ units place →
       IsOfSlot place r.slot → Contains plan.requirements r → IsTrue (holds r.guard branch)
 
+-- all requirements at these places are active
+abbrev pub AreActiveAt : Lists → List Place → List Pick → Type 0
+AreActiveAt plan places picks =
+    (r : requirement.Requirement) → HasPlaceAmong plan places r → IsTrue (holds r.guard picks)
+
+-- for each requirement of the one plan at these places the other has one with the same guard
+abbrev pub HaveGuardsIn : Lists → Lists → List Place → Type 0
+HaveGuardsIn one other places = (r : requirement.Requirement) → HasPlaceAmong one places r →
+    (s : requirement.Requirement) × HasPlaceAmong other places s × (s.guard ≡ r.guard)
+
 -- each literal that is asked for is picked
 abbrev pub AreAllPicked : List Pick → List (Option ℕ) → Type 0
 AreAllPicked picks literals =

@@ -126,8 +126,8 @@ pairs_under store key = option_map_or (λ c. length c.pairs) (conflict_at store 
 abbrev pub pairs_of : Stored → List ℕ → ℕ
 pairs_of store keys = sum (map (pairs_under store) keys)
 
--- so many conflicts are given up, the earliest added, and the others stay, with so many pairs at most; with fewer given
--- up there would be more pairs
+-- so many conflicts are given up, the earliest added, and the others stay, with so many pairs at most; with fewer
+-- given up there would be more pairs
 pub record Trims (old new : Stored) (most count : ℕ) : Type 0 where
   pub order : new.order ≡ drop count old.order
   pub given_up : (key : ℕ) → Contains (take count old.order) key → conflict_at new key ≡ None

@@ -1,15 +1,18 @@
 //! What was learned of branches: a flow or a firm cycle.
-ghost use Rattle.std.specs.Prelude.{◌≡◌, ◌<◌, ◌≤◌, ◌↔◌, map, IsTrue, IsFalse, IfOk};
+ghost use Rattle.std.specs.Prelude.{◌≡◌, ◌<◌, ◌≤◌, ◌↔◌, IsTrue, IsFalse, IfOk};
 ghost use Rattle.std.specs.List.{All};
+ghost use Rattle.uhura_flow.specs.Flow.{flow_units};
 ghost use Rattle.uhura_net.specs.declared.place.TheConstants.{PLACES};
-ghost use Rattle.uhura_conflict.specs.Learned.{places_in, AreFlowPairs, IsLearned};
-ghost use Rattle.uhura_conflict.specs.Literals.{AreActiveTogether, AreLiteralsOf, Applies};
+ghost use Rattle.uhura_conflict.specs.Learned.{places_in, AreFlowPairs, AreUnitsOf, IsLearned, walk_pairs};
+ghost use Rattle.uhura_conflict.specs.Literals.{AreActiveTogether, AreUsedTogether, AreLiteralsOf, Applies};
 
 use crate::literals::{applies, literals_of};
+use crate::used::used_pairs;
 use std::alloc::{AllocError, Global};
 use std::marker::Model;
 use std::rc::RcSlice;
 use uhura_choice::Pick;
+use uhura_flow::Flow;
 use uhura_net::{PLACES, Place};
 use uhura_plan::{CHOICES, Plan};
 
@@ -42,12 +45,23 @@ impl Model for Conflict {
 }
 
 impl Conflict {
+    /// The flow's present units above 0, by rising places. In some branch all requirements among them are active.
+    pub fn flow(alloc: Global, plan: &Plan, net: &Flow) -> Result<Conflict, AllocError>
+        requires together { AreUsedTogether plan.now (flow_units net.now) }
+        ensures flow { IfOk result (λ c. IsFalse c.stuck) }
+        ensures units { IfOk result (λ c. AreUnitsOf (flow_units net.now) c.pairs) }
+        ensures literals { IfOk result (λ c.
+            AreLiteralsOf plan.now (places_in c.pairs) c.literals) }
+    {
+        Conflict::of_pairs(plan, used_pairs(alloc, net)?, false)
+    }
+
     /// The firm cycle along these places, each with 1 unit. In some branch all requirements among them are active.
     pub fn stuck(alloc: Global, plan: &Plan, cycle: &[Place]) -> Result<Conflict, AllocError>
         requires inside { All (λ place. place.0 < PLACES) cycle.now }
         requires together { AreActiveTogether plan.now cycle.now }
         ensures stuck { IfOk result (λ c. IsTrue c.stuck) }
-        ensures pairs { IfOk result (λ c. c.pairs ≡ map (λ place. (place, 1)) cycle.now) }
+        ensures pairs { IfOk result (λ c. c.pairs ≡ walk_pairs cycle.now) }
         ensures literals { IfOk result (λ c. AreLiteralsOf plan.now cycle.now c.literals) }
     {
         Conflict::of_pairs(plan, walk_pairs(alloc, cycle)?, true)
@@ -66,7 +80,8 @@ impl Conflict {
         requires together { AreActiveTogether plan.now (places_in pairs.items) }
         ensures stuck { IfOk result (λ c. c.stuck ≡ stuck) }
         ensures pairs { IfOk result (λ c. c.pairs ≡ pairs.items) }
-        ensures literals { IfOk result (λ c. AreLiteralsOf plan.now (places_in pairs.items) c.literals) }
+        ensures literals { IfOk result (λ c.
+            AreLiteralsOf plan.now (places_in pairs.items) c.literals) }
     {
         let literals = literals_of(plan, pairs.as_slice());
         Ok(Conflict {
@@ -112,7 +127,7 @@ impl Conflict {
 
 /// The places of a walk, in its order, with 1 unit each.
 fn walk_pairs(alloc: Global, cycle: &[Place]) -> Result<Vec<(Place, u64)>, AllocError>
-    ensures { IfOk result (λ pairs. pairs.items ≡ map (λ place. (place, 1)) cycle.now) }
+    ensures { IfOk result (λ pairs. pairs.items ≡ walk_pairs cycle.now) }
 {
     let mut pairs = Vec::with_capacity(alloc, cycle.len())?;
     for place in cycle {

@@ -3,7 +3,7 @@ ghost use Rattle.std.specs.Prelude.{◌≡◌, ◌<◌, ℕ, List, Option, IfSom
 ghost use Rattle.slab.specs.Slab.{get};
 ghost use Rattle.uhura_net.specs.declared.edge.Edge.{Edge};
 ghost use Rattle.uhura_conflict.specs.Store.{IsBest};
-ghost use Rattle.uhura_conflict.specs.Entries.{shown_as, AreWorth, exceeds, with_cycle, with_flow, with_entry};
+ghost use Rattle.uhura_conflict.specs.Entries.{shown_as, AreWorth, bound_of, exceeds};
 
 use crate::Bound;
 use crate::entry::Entry;
@@ -19,7 +19,7 @@ pub(crate) fn best_in(entries: &Slab<Entry>, picks: &[Pick]) -> Bound
     for key in 0..entries.capacity() {
         if let Some(entry) = entries.get(key) {
             if exceeds(best, entry) && entry.conflict.applies(picks) {
-                best = with_entry(best, entry, key);
+                best = bound_of(entry, key);
             }
         }
     }
@@ -37,39 +37,15 @@ fn exceeds(best: Bound, entry: &Entry) -> bool
     }
 }
 
-/// What is known where the entry under a later key applies too.
-fn with_entry(best: Bound, entry: &Entry, key: usize) -> Bound
-    ensures { result ≡ with_entry best entry.now key }
+/// What an entry tells, under its key.
+fn bound_of(entry: &Entry, key: usize) -> Bound
+    ensures { result ≡ bound_of entry.now key }
 {
     if entry.conflict.is_stuck() {
-        with_cycle(best, key)
-    } else {
-        with_flow(best, entry.value, key)
+        return Bound::Stuck { key };
     }
-}
-
-/// A firm cycle under a later key comes where there was none.
-fn with_cycle(best: Bound, key: usize) -> Bound
-    ensures { result ≡ with_cycle best key }
-{
-    match best {
-        Bound::Stuck { .. } => best,
-        _ => Bound::Stuck { key },
-    }
-}
-
-/// A flow under a later key comes where it is worth more.
-fn with_flow(best: Bound, value: i128, key: usize) -> Bound
-    ensures { result ≡ with_flow best value key }
-{
-    let most = match best {
-        Bound::Stuck { .. } => return best,
-        Bound::Flow { value: most, .. } => most,
-        Bound::Nothing => 0,
-    };
-    if most < value {
-        Bound::Flow { value, key }
-    } else {
-        best
+    Bound::Flow {
+        value: entry.value,
+        key,
     }
 }

@@ -5,6 +5,7 @@ ghost use Rattle.uhura_conflict.specs.Learned.{IsValid};
 ghost use Rattle.uhura_conflict.specs.Literals.{Applies};
 ghost use Rattle.uhura_conflict.specs.Store.{conflict_at, IsStore, empty_store, IsBest, ExceedsBest, Adds, Revises, Trims};
 
+use crate::comparing::mark_changed;
 use crate::entry::Entry;
 use crate::looking::best_in;
 use crate::revising::{copy_table, keep_held, revise_all};
@@ -15,7 +16,7 @@ use slab::Slab;
 use std::alloc::{AllocError, Global};
 use std::marker::Model;
 use uhura_choice::{Branch, Prefix};
-use uhura_net::EdgeTable;
+use uhura_net::{EdgeTable, PLACES};
 
 /// Conflicts under keys, each valid for the table last handed to `revise`, and their keys in the order in which they
 /// were added.
@@ -24,19 +25,22 @@ pub struct Store {
     entries: Slab<Entry>,
     order: Vec<usize>,
     table: EdgeTable,
+    changed: Vec<bool>,
 }
 
 impl Model for Store {
-    ghost use Rattle.uhura_conflict.specs.Store.{Stored, IsStore};
+    ghost use Rattle.uhura_conflict.specs.Store.{Stored};
 
     ghost Value = { Stored };
 
-    ghost use Rattle.uhura_conflict.specs.Entries.{shown_as, AreWorth};
+    ghost use Rattle.std.specs.Prelude.{◌≡◌, length};
+    ghost use Rattle.uhura_net.specs.declared.place.TheConstants.{PLACES};
+    ghost use Rattle.uhura_conflict.specs.Entries.{shown_as, IsHeldStore};
 
     ghost view = { λ s. shown_as s.entries s.order.items s.table };
 
     ghost invariant = { λ s.
-        IsStore (shown_as s.entries s.order.items s.table) × AreWorth s.entries s.table };
+        IsHeldStore s.entries s.order.items s.table × (length s.changed.items ≡ PLACES) };
 }
 
 impl Store {
@@ -48,6 +52,7 @@ impl Store {
             entries: Slab::new(alloc),
             order: Vec::new(alloc),
             table: EdgeTable::new(alloc)?,
+            changed: vec![in alloc; false; PLACES]?,
         })
     }
 
@@ -60,8 +65,8 @@ impl Store {
         best_in(&self.entries, prefix.entries())
     }
 
-    /// Adds a conflict under a key that has none, and gives it back where there is no memory. It is to exceed the best
-    /// that is known of the branch.
+    /// Adds a conflict under a key that has none, and gives it back where there is no memory. It is to exceed the
+    /// best that is known of the branch.
     pub fn add(&mut self, conflict: Conflict, branch: &Branch) -> Result<usize, Conflict>
         requires valid { IsValid (edges_of self.old.table) conflict }
         requires applies { Applies branch.now conflict }
@@ -97,7 +102,10 @@ impl Store {
         ensures revised { Revises self.old self.new table.now }
         ensures sound { IsStore self.new }
     {
-        revise_all(&mut self.entries, &self.table, table);
+        if !mark_changed(&self.table, table, &mut self.changed) {
+            return;
+        }
+        revise_all(&mut self.entries, &self.table, table, &self.changed);
         keep_held(&mut self.order, &self.entries);
         copy_table(&mut self.table, table);
     }

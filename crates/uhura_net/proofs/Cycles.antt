@@ -30,7 +30,7 @@ at_step P edges units (place ∷ places) (back ∷ backward) steps holds (suc st
     at_step P edges units places backward (omega arith) (All-tail P (residual_edge (edge_at edges place.0) (units place.0) back) (residual_walk edges units places backward) holds) step (omega arith)
 
 -- a place is among those of a walk or isn't
-is_among : (places : List Place) (at : ℕ) →
+pub is_among : (places : List Place) (at : ℕ) →
     ((step : ℕ) × (step < length places) × (place_at places step ≡ at)) ⊎ ((step : ℕ) → step < length places → place_at places step ≢ at)
 is_among [] at = inr (λ step never. absurd (omega arith))
 is_among (place ∷ places) at =

@@ -1,7 +1,7 @@
 mod Bounds
-mod Cancelling
+pub mod Cancelling
 pub mod Clones
-mod Cycles
+pub mod Cycles
 pub mod Duality
 mod Empty
 pub mod Firm
@@ -12,7 +12,7 @@ mod Moves
 pub mod Outweighing
 pub mod Paying
 mod Worths
-mod Pushing
+pub mod Pushing
 mod Relisting
 pub mod Rows
 pub mod Scaled

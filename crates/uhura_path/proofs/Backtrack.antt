@@ -1,5 +1,5 @@
 -- Going back by the steps of a search that is over.
-use Rattle.std.proofs.Common.{◌≡◌, ◌≢◌, ℕ, ◌+◌, ◌-◌, ◌^◌, ◌<◌, ◌≤◌, min, Bool, true, List, length, take, set, Option, None, Some, MatchOption, refl, sym, ap, subst, ◌∙◌, arith}
+use Rattle.std.proofs.Common.{◌≡◌, ◌≢◌, ℕ, ◌+◌, ◌-◌, ◌^◌, ◌<◌, ◌≤◌, min, Bool, List, length, take, set, Option, None, Some, MatchOption, sym, ap, subst, ◌∙◌, arith}
 use Rattle.std.proofs.lemmas.List.{length-set}
 use Rattle.uhura_net.specs.declared.edge.TheConstants.{NODES}
 use Rattle.uhura_net.specs.declared.place.Place.{Place}
@@ -8,7 +8,7 @@ use Rattle.uhura_path.specs.declared.label.Step.{Step}
 use Rattle.uhura_path.specs.Walk.{IsLeastRoom, IsPath}
 use Rattle.uhura_path.specs.Found.{label_at}
 use Rattle.uhura_path.specs.Quest.{Aim}
-use Rattle.uhura_path.specs.Search.{Spread, has_label, reach, IsStep, IsClosing, IsSpread, IsOver}
+use Rattle.uhura_path.specs.Search.{Spread, reach, IsStep, IsClosing, IsSpread, IsOver}
 use Rattle.uhura_path.proofs.Noting.{few_listed}
 use Rattle.uhura_path.proofs.Distances.{within_done}
 use Rattle.uhura_path.proofs.Trail.{IsPrefix, IsPrefix-none, IsPrefix-more, IsLeastRoom-prefix, AreOpposite, IsPath-prefix}

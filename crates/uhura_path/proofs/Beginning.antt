@@ -1,15 +1,14 @@
 -- How a search begins: the root alone has a label.
-use Rattle.std.proofs.Common.{◌≡◌, ◌≢◌, ℕ, ◌+◌, ◌<◌, ◌≤◌, ◌==◌, Bool, true, false, cond, if◌then◌else◌, List, [], ◌∷◌, length, get_or, set, count_by, Option, None, refl, sym, ap, subst, ◌∙◌, inl, inr, arith}
+use Rattle.std.proofs.Common.{◌≡◌, ◌≢◌, ℕ, ◌<◌, ◌≤◌, ◌==◌, true, false, cond, if◌then◌else◌, List, length, get_or, set, count_by, None, refl, sym, ap, ◌∙◌, inl, inr, arith}
 use Rattle.std.specs.List.{All}
 use Rattle.std.proofs.lemmas.Bool.{cases_eq, eq-eqb, ne_eqb, both_ways}
-use Rattle.std.proofs.lemmas.List.{get_or_default, length-set, get_or-set_same, get_or-set_other}
+use Rattle.std.proofs.lemmas.List.{get_or_default, length-set, get_or-set_same}
 use Rattle.std.proofs.lemmas.List.Sums.{sum_by-le}
 use Rattle.uhura_net.specs.declared.edge.TheConstants.{NODES}
 use Rattle.uhura_path.specs.declared.label.Label.{Label}
-use Rattle.uhura_path.specs.declared.front.Front.{Front}
 use Rattle.uhura_path.specs.Found.{no_label, label_at}
 use Rattle.uhura_path.specs.Quest.{Aim}
-use Rattle.uhura_path.specs.Search.{Spread, is_own, has_label, reach, node_at, IsListed, IsStep, IsSpread}
+use Rattle.uhura_path.specs.Search.{Spread, is_own, has_label, reach, node_at, IsSpread}
 use Rattle.uhura_path.proofs.Reaching.{label_at-set_same, label_at-set_other, reach-own, reach-free, count_by-set_more}
 
 -- no label is of this search yet

@@ -1,15 +1,13 @@
 -- Where a search is over, its distances up to the cap are those of the arcs.
-use Rattle.std.proofs.Common.{◌≡◌, ◌≢◌, ℕ, zero, suc, ◌+◌, ◌<◌, ◌≤◌, min, Bool, true, false, List, [], ◌∷◌, length, take, get_or, Some, refl, sym, ap, subst, ◌∙◌, inl, inr, arith}
+use Rattle.std.proofs.Common.{◌≡◌, ℕ, zero, suc, ◌+◌, ◌<◌, ◌≤◌, min, Bool, true, List, [], ◌∷◌, Some, sym, ap, subst, ◌∙◌, inl, inr, arith}
 use Rattle.std.proofs.lemmas.Bool.{cases_eq, cases_lt, cases_Bool}
-use Rattle.uhura_net.specs.declared.edge.TheConstants.{NODES}
 use Rattle.uhura_net.specs.declared.place.Place.{Place}
 use Rattle.uhura_path.specs.declared.ways.Arc.{Arc}
-use Rattle.uhura_path.specs.declared.label.Label.{Label}
 use Rattle.uhura_path.specs.Ways.{Arcs}
 use Rattle.uhura_path.specs.Walk.{IsWalk, HasWalk, NoneIsShorter}
 use Rattle.uhura_path.specs.Found.{label_at, AreDistances}
 use Rattle.uhura_path.specs.Quest.{Aim}
-use Rattle.uhura_path.specs.Search.{Spread, has_label, reach, node_at, IsStep, IsSpread, AreKept, IsOver}
+use Rattle.uhura_path.specs.Search.{Spread, has_label, reach, node_at, IsSpread, IsOver}
 use Rattle.uhura_path.proofs.Reaching.{reach-free}
 use Rattle.uhura_path.proofs.Noting.{few_listed}
 

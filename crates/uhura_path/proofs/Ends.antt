@@ -1,22 +1,20 @@
 -- Arcs lead to the nodes where their places are listed.
-use Rattle.std.proofs.Common.{◌≡◌, ℕ, ◌≤◌, ℤ, nat_le, Bool, true, false, if◌then◌else◌, Option, None, Some, unwrap_or, refl, sym, ap, ◌∙◌, inl, inr, arith}
+use Rattle.std.proofs.Common.{◌≡◌, ℕ, ◌≤◌, ℤ, nat_le, Bool, true, false, Option, None, Some, refl, sym, ap, ◌∙◌, inl, inr}
+use mathlib.Core.Bool.{beq}
 use Rattle.std.specs.Option.{option_map}
 use Rattle.std.proofs.lemmas.Bool.{cases_Bool, leb-true}
 use Rattle.uhura_net.specs.declared.edge.Edge.{Edge}
-use Rattle.uhura_net.specs.declared.edge.End.{End}
 use Rattle.uhura_net.specs.declared.edge.End.TheVariants.{From, To}
 use Rattle.uhura_net.specs.Place.{is_loose}
-use Rattle.uhura_net.specs.Edges.{Edges, no_edge, edge_at}
 use Rattle.uhura_net.specs.Circulation.{edges_of, units_of}
 use Rattle.uhura_net.specs.Residual.{residual_edge}
-use Rattle.uhura_net.specs.Optimal.{firm_edges}
-use Rattle.uhura_net.specs.Lists.{Listing, node_of, end_node, AreListed}
-use Rattle.uhura_net.specs.Net.{NetState, IsNet}
+use Rattle.uhura_net.specs.Lists.{Listing, node_of, AreListed}
+use Rattle.uhura_net.specs.Net.{NetState}
 use Rattle.uhura_path.specs.declared.ways.Ways.{Ways}
 use Rattle.uhura_path.specs.declared.ways.Ways.TheVariants.{Residual, Firm}
 use Rattle.uhura_path.specs.declared.ways.Arc.{Arc}
 use Rattle.uhura_path.proofs.Trail.{AreOpposite}
-use Rattle.uhura_path.specs.Ways.{Walkable, residual_option, walkable, roomy_edge, arc_of, arcs_of}
+use Rattle.uhura_path.specs.Ways.{Walkable, residual_option, walkable, roomy_edge, arc_of, Arcs, arcs_of, turned, directed}
 
 -- an arc is that of an edge which may be walked
 pub record IsArcOf (edges : Walkable) (potentials : ℕ → ℤ) (place : ℕ) (backward : Bool) (arc : Arc) : Type 0 where
@@ -108,4 +106,66 @@ AreOpposite-arcs ways net potentials place a b forward backward =
     let ends = opposite_ends ways net place first.edge second.edge first.walked second.walked in (
       ap (λ (x : Arc). x.from) first.same ∙ ends.0 ∙ sym (ap (λ (x : Arc). x.to) second.same),
       ap (λ (x : Arc). x.to) first.same ∙ ends.1 ∙ sym (ap (λ (x : Arc). x.from) second.same),
+    )
+
+-- where an arc begins
+backward_start : (ways : Ways) (net : NetState) (listing : Listing) → AreListed (edges_of net.edges) To listing → (place : ℕ) (found : Edge) →
+    walkable ways net place true ≡ Some found → found.from ≡ node_of listing place
+backward_start Residual net listing listed place found is =
+    let left = IsLeft-residual (edges_of net.edges place) (units_of net.units place) true found is in
+    sym (listed.each place left.whole left.there ∙ ap (λ (e : Edge). e.from) left.roomy.same)
+backward_start Firm net listing listed place found is = absurd (let no : ⊥ = cc in no)
+
+forward_start : (ways : Ways) (net : NetState) (listing : Listing) → AreListed (edges_of net.edges) From listing → (place : ℕ) (found : Edge) →
+    walkable ways net place false ≡ Some found → found.from ≡ node_of listing place
+forward_start Residual net listing listed place found is =
+    let left = IsLeft-residual (edges_of net.edges place) (units_of net.units place) false found is in
+    sym (listed.each place left.whole left.there ∙ ap (λ (e : Edge). e.from) left.roomy.same)
+forward_start Firm net listing listed place found is =
+    elim (cases_Bool (is_loose place)) [
+      | inl loose ↦ let never : None ≡ Some found = rw loose at is in absurd (let no : ⊥ = cc in no)
+      | inr firm ↦ let there : edges_of net.edges place ≡ Some found = rw firm at is in sym (listed.each place found there)
+    ]
+
+-- an arc of the turned ones is another one, turned
+pub record IsTurned (found : Option Arc) (arc : Arc) : Type 0 where
+  pub other : Arc
+  pub there : found ≡ Some other
+  pub same : arc ≡ turned other
+
+pub IsTurned-arc : (found : Option Arc) (arc : Arc) → option_map turned found ≡ Some arc → IsTurned found arc
+IsTurned-arc None arc is = absurd (let no : ⊥ = cc in no)
+IsTurned-arc (Some other) arc is = let same : arc ≡ turned other = cc in record { other = other; there = refl; same = same }
+
+-- the lists in which arcs are found lead to where they do
+pub arc_ends-entering : (outward backward : Bool) (ways : Ways) (net : NetState) (potentials : ℕ → ℤ) (listing : Listing) → beq outward backward ≡ true →
+    AreListed (edges_of net.edges) To listing → (place : ℕ) (arc : Arc) → directed outward (arcs_of (walkable ways net) potentials) place backward ≡ Some arc →
+    arc.to ≡ node_of listing place
+arc_ends-entering false false ways net potentials listing alike listed place arc is = arc_ends-forward ways net potentials listing listed place arc is
+arc_ends-entering true true ways net potentials listing alike listed place arc is =
+    let found = IsTurned-arc (arcs_of (walkable ways net) potentials place true) arc is in
+    let of = IsArcOf-arc (walkable ways net) potentials place true found.other found.there in
+    ap (λ (a : Arc). a.to) found.same ∙ ap (λ (a : Arc). a.from) of.same ∙ backward_start ways net listing listed place of.edge of.walked
+arc_ends-entering false true ways net potentials listing alike listed place arc is = absurd (let no : ⊥ = cc in no)
+arc_ends-entering true false ways net potentials listing alike listed place arc is = absurd (let no : ⊥ = cc in no)
+
+pub arc_ends-leaving : (outward backward : Bool) (ways : Ways) (net : NetState) (potentials : ℕ → ℤ) (listing : Listing) → beq outward backward ≡ false →
+    AreListed (edges_of net.edges) From listing → (place : ℕ) (arc : Arc) → directed outward (arcs_of (walkable ways net) potentials) place backward ≡ Some arc →
+    arc.to ≡ node_of listing place
+arc_ends-leaving false true ways net potentials listing apart listed place arc is = arc_ends-backward ways net potentials listing listed place arc is
+arc_ends-leaving true false ways net potentials listing apart listed place arc is =
+    let found = IsTurned-arc (arcs_of (walkable ways net) potentials place false) arc is in
+    let of = IsArcOf-arc (walkable ways net) potentials place false found.other found.there in
+    ap (λ (a : Arc). a.to) found.same ∙ ap (λ (a : Arc). a.from) of.same ∙ forward_start ways net listing listed place of.edge of.walked
+arc_ends-leaving false false ways net potentials listing apart listed place arc is = absurd (let no : ⊥ = cc in no)
+arc_ends-leaving true true ways net potentials listing apart listed place arc is = absurd (let no : ⊥ = cc in no)
+
+pub AreOpposite-directed : (outward : Bool) (arcs : Arcs) → AreOpposite arcs → AreOpposite (directed outward arcs)
+AreOpposite-directed false arcs opposite place a b forward backward = opposite place a b forward backward
+AreOpposite-directed true arcs opposite place a b forward backward =
+    let first = IsTurned-arc (arcs place false) a forward in
+    let second = IsTurned-arc (arcs place true) b backward in
+    let ends = opposite place first.other second.other first.there second.there in (
+      ap (λ (x : Arc). x.from) first.same ∙ ends.1 ∙ sym (ap (λ (x : Arc). x.to) second.same),
+      ap (λ (x : Arc). x.to) first.same ∙ ends.0 ∙ sym (ap (λ (x : Arc). x.from) second.same),
     )

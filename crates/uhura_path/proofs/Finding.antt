@@ -1,25 +1,19 @@
 -- What a search that is over has found.
-use Rattle.std.proofs.Common.{◌≡◌, ◌≢◌, ℕ, ◌<◌, ◌≤◌, min, Bool, true, List, length, take, get_or, Option, None, Some, MatchOption, refl, sym, ap, subst, ◌∙◌, arith}
-use Rattle.std.proofs.lemmas.Bool.{cases_lt}
+use Rattle.std.proofs.Common.{◌≡◌, ℕ, ◌<◌, ◌≤◌, Bool, List, length, take, get_or, MatchOption, sym, ap, subst, ◌∙◌, arith}
 use Rattle.std.proofs.lemmas.List.{get_or-take, length-take-le}
-use Rattle.uhura_net.specs.declared.edge.TheConstants.{NODES}
 use Rattle.uhura_path.specs.declared.task.TheConstants.{NO_CAP}
 use Rattle.uhura_path.specs.declared.task.Task.{Task}
 use Rattle.uhura_path.specs.declared.label.Label.{Label}
-use Rattle.uhura_path.specs.declared.label.Step.{Step}
 use Rattle.uhura_path.specs.declared.front.Front.{Front}
-use Rattle.uhura_path.specs.declared.found.Path.{Path}
 use Rattle.uhura_path.specs.declared.found.Found.{Found}
-use Rattle.uhura_path.specs.Ways.{Arcs}
 use Rattle.uhura_net.specs.declared.place.Place.{Place}
 use Rattle.uhura_path.specs.Walk.{IsWalk, NoneIsShorter}
 use Rattle.uhura_path.specs.Found.{label_at, AreDistances, IsPathOf, IsReached, IsFound}
 use Rattle.uhura_path.specs.Quest.{Aim}
-use Rattle.uhura_path.specs.Search.{Spread, has_label, reach, node_at, IsClosing, IsSpread, IsOver, IsClosed}
+use Rattle.uhura_path.specs.Search.{Spread, reach, node_at, IsSpread, IsOver}
 use Rattle.uhura_path.proofs.Reaching.{reach-own, inside_labelled}
 use Rattle.uhura_path.proofs.Noting.{few_listed}
 use Rattle.uhura_path.proofs.Distances.{capped, beyond, within_done, AreDistances-over, capped_goal, NoneIsShorter-distance}
-use Rattle.uhura_path.proofs.Backtrack.{IsClosing-found}
 
 -- what is handed out of a search
 pub record HandsOut (taken : ℕ) (labels : List Label) (order : List ℕ) (front : Front) (found : Found) : Type 0 where

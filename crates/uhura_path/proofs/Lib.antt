@@ -1,8 +1,10 @@
 mod Backward
+mod Measured
 mod Noting
 mod Putting
 mod Raising
 mod Reaching
+mod Sound
 pub mod Steps
 mod Swapping
 mod Trail

@@ -1,12 +1,12 @@
 -- A walk along a list of places meets all arcs into its node.
-use Rattle.std.proofs.Common.{◌≡◌, ◌≢◌, ℕ, ◌+◌, ◌<◌, ◌≤◌, min, Bool, Some, ◌⊎◌, sym, ap, subst, ◌∙◌, inl, inr, arith}
+use Rattle.std.proofs.Common.{◌≡◌, ◌≢◌, ℕ, ◌+◌, ◌<◌, ◌≤◌, Bool, Some, ◌⊎◌, sym, ap, subst, ◌∙◌, inl, inr, arith}
 use Rattle.std.proofs.lemmas.Bool.{cases_eq, cases_lt}
 use Rattle.uhura_net.specs.declared.edge.TheConstants.{NODES}
 use Rattle.uhura_net.specs.declared.place.TheConstants.{PLACES}
 use Rattle.uhura_net.specs.Lists.{Listing, first_of, next_of, node_of, IsRanked}
 use Rattle.uhura_path.specs.declared.ways.Arc.{Arc}
 use Rattle.uhura_path.specs.Quest.{Aim}
-use Rattle.uhura_path.specs.Search.{Spread, reach, node_at, IsAtNode, IsGrown, GoesOn, IsKept}
+use Rattle.uhura_path.specs.Search.{Spread, reach, node_at, IsGrown, GoesOn, IsKept}
 
 -- an arc into a done node stays kept while the search goes on
 pub IsKept-grown : (aim : Aim) (taken at : ℕ) (old new : Spread) (arc : Arc) → IsGrown aim taken old new → at < taken → arc.to ≡ node_at old at → IsKept aim old arc → IsKept aim new arc

@@ -1,6 +1,6 @@
 -- Noting a label keeps what a search knows.
-use Rattle.std.proofs.Common.{◌≡◌, ◌≢◌, ℕ, ◌+◌, ◌<◌, ◌≤◌, ◌==◌, Bool, true, false, if◌then◌else◌, List, length, set, Option, Some, ◌⊎◌, refl, sym, ap, subst, ◌∙◌, inl, inr, arith}
-use Rattle.std.proofs.lemmas.Bool.{cases_eq, cases_lt, cases_Bool, eq-eqb, ne_eqb, eqb-true, both_ways}
+use Rattle.std.proofs.Common.{◌≡◌, ◌≢◌, ℕ, ◌+◌, ◌<◌, ◌≤◌, ◌==◌, true, false, if◌then◌else◌, length, set, Some, refl, sym, ap, subst, ◌∙◌, inl, inr, arith}
+use Rattle.std.proofs.lemmas.Bool.{cases_eq, cases_lt, cases_Bool, eq-eqb, ne_eqb, both_ways}
 use Rattle.std.proofs.lemmas.List.{length-set, get_or-set_same, get_or-set_other}
 use Rattle.std.proofs.lemmas.List.Sums.{count_by-le-length}
 use Rattle.uhura_net.specs.declared.edge.TheConstants.{NODES}
@@ -11,7 +11,7 @@ use Rattle.uhura_path.specs.declared.label.Label.{Label}
 use Rattle.uhura_path.specs.Found.{label_at}
 use Rattle.uhura_path.specs.Quest.{Aim}
 use Rattle.uhura_path.specs.Search.{Spread, is_own, has_label, reach, node_at, IsListed, IsSpread, IsAtNode, IsGrown, GoesOn, IsKept, IsStill, IsLowered, IsAdded, IsNoted}
-use Rattle.uhura_path.proofs.Reaching.{label_at-set_same, label_at-set_other, reach_of, reach-own, inside_labelled, count_by-set_more, count_by-set_same, room_for_label}
+use Rattle.uhura_path.proofs.Reaching.{label_at-set_same, label_at-set_other, reach-own, count_by-set_more, count_by-set_same, room_for_label}
 use Rattle.uhura_path.proofs.Putting.{label_by, IsPutAt, IsSpread-put, IsGrown-put, IsKept-put}
 
 -- nothing changes

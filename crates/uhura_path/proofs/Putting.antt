@@ -1,14 +1,13 @@
 -- A node gets a label while the search is at a node that is done.
-use Rattle.std.proofs.Common.{◌≡◌, ◌≢◌, ℕ, ◌+◌, ◌<◌, ◌≤◌, Bool, true, false, List, length, set, Option, None, Some, MatchOption, refl, sym, ap, subst, ◌∙◌, inl, inr, arith}
-use Rattle.std.proofs.lemmas.Bool.{cases_eq, cases_lt, eq-eqb, both_ways}
-use Rattle.uhura_net.specs.declared.edge.TheConstants.{NODES}
+use Rattle.std.proofs.Common.{◌≡◌, ◌≢◌, ℕ, ◌+◌, ◌<◌, ◌≤◌, true, length, set, Option, None, Some, MatchOption, refl, sym, ap, subst, ◌∙◌, inl, inr, arith}
+use Rattle.std.proofs.lemmas.Bool.{cases_eq, eq-eqb}
 use Rattle.uhura_net.specs.declared.place.TheConstants.{PLACES}
 use Rattle.uhura_path.specs.declared.ways.Arc.{Arc}
 use Rattle.uhura_path.specs.declared.label.Step.{Step}
 use Rattle.uhura_path.specs.declared.label.Label.{Label}
 use Rattle.uhura_path.specs.Found.{label_at}
 use Rattle.uhura_path.specs.Quest.{Aim}
-use Rattle.uhura_path.specs.Search.{Spread, is_own, has_label, reach, node_at, IsListed, IsStep, IsClosing, IsSpread, IsAtNode, IsGrown, GoesOn, IsKept}
+use Rattle.uhura_path.specs.Search.{Spread, is_own, has_label, reach, node_at, IsListed, IsStep, IsClosing, IsSpread, IsGrown, IsKept}
 use Rattle.uhura_path.proofs.Reaching.{label_at-set_same, label_at-set_other, reach_of, reach-own, IsStep-stays}
 
 -- the label of an arc's start, which is so far from the root

@@ -1,6 +1,5 @@
 -- What a label says of its node, and how steps stay.
-use Rattle.std.proofs.Common.{◌≡◌, ◌≢◌, ℕ, ◌+◌, ◌<◌, ◌≤◌, ◌==◌, nat_eq, Bool, true, false, cond, if◌then◌else◌, List, length, get_or, set, count_by, refl, sym, ap, subst, ◌∙◌, inl, inr, arith}
-use Rattle.std.specs.List.{sum_by}
+use Rattle.std.proofs.Common.{◌≡◌, ◌≢◌, ℕ, ◌+◌, ◌<◌, ◌≤◌, true, false, cond, if◌then◌else◌, List, length, set, count_by, refl, sym, ap, ◌∙◌, inl, inr, arith}
 use Rattle.std.proofs.lemmas.Bool.{cases_lt, eq-eqb, eqb-true}
 use Rattle.std.proofs.lemmas.List.{get_or_past, length-set, get_or-set_same, get_or-set_other}
 use Rattle.std.proofs.lemmas.List.Sums.{sum_by-set, count_by-le-length}
@@ -9,7 +8,7 @@ use Rattle.uhura_path.specs.declared.label.Step.{Step}
 use Rattle.uhura_path.specs.declared.label.Label.{Label}
 use Rattle.uhura_path.specs.Found.{no_label, label_at}
 use Rattle.uhura_path.specs.Quest.{Aim}
-use Rattle.uhura_path.specs.Search.{Spread, is_own, has_label, reach, node_at, IsListed, IsStep}
+use Rattle.uhura_path.specs.Search.{Spread, is_own, has_label, reach, IsListed, IsStep}
 
 -- a label with another in its place
 pub label_at-set_same : (labels : List Label) (node : ℕ) (label : Label) → node < length labels → label_at (set labels node label) node ≡ label

@@ -1,11 +1,9 @@
 -- The nearest open node comes to the front of the open ones, and is done.
-use Rattle.std.proofs.Common.{◌≡◌, ◌≢◌, ℕ, ◌+◌, ◌<◌, ◌≤◌, ◌==◌, Bool, true, false, if◌then◌else◌, List, length, set, get_or, Option, None, Some, MatchOption, ◌⊎◌, refl, sym, ap, subst, ◌∙◌, inl, inr, arith}
+use Rattle.std.proofs.Common.{◌≡◌, ◌≢◌, ℕ, ◌+◌, ◌<◌, ◌≤◌, ◌==◌, true, if◌then◌else◌, List, length, set, get_or, Option, None, Some, MatchOption, ◌⊎◌, refl, sym, ap, ◌∙◌, inl, inr, arith}
 use Rattle.std.proofs.lemmas.Bool.{cases_eq, cases_lt, cases_Bool, eq-eqb, ne_eqb}
 use Rattle.std.proofs.lemmas.List.{length-set, get_or-set_same, get_or-set_other}
 use Rattle.uhura_net.specs.declared.edge.TheConstants.{NODES}
-use Rattle.uhura_path.specs.declared.ways.Arc.{Arc}
 use Rattle.uhura_path.specs.declared.label.Step.{Step}
-use Rattle.uhura_path.specs.declared.label.Label.{Label}
 use Rattle.uhura_path.specs.Found.{label_at}
 use Rattle.uhura_path.specs.Quest.{Aim}
 use Rattle.uhura_path.specs.Search.{Spread, has_label, reach, node_at, IsListed, IsStep, IsClosing, IsSpread, AreKept, IsAtNode, IsChosen}

@@ -1,15 +1,13 @@
 -- Writing down the steps from the goal to the root, one after another.
-use Rattle.std.proofs.Common.{◌≡◌, ◌≢◌, ℕ, ◌+◌, ◌-◌, ◌^◌, ◌<◌, ◌≤◌, ◌==◌, min, Bool, true, false, List, [], ◌∷◌, ◌++◌, length, take, set, get_or, Option, None, Some, unwrap_or, ◌⊎◌, refl, sym, ap, subst, ◌∙◌, inl, inr, arith}
+use Rattle.std.proofs.Common.{◌≡◌, ◌≢◌, ℕ, ◌+◌, ◌-◌, ◌^◌, ◌<◌, ◌≤◌, min, Bool, true, false, List, [], ◌∷◌, ◌++◌, length, take, set, get_or, Option, Some, unwrap_or, ◌⊎◌, refl, sym, ap, subst, ◌∙◌, inl, inr, arith}
 use Rattle.std.specs.List.{IsDistinct, AllPairs}
 use Rattle.std.specs.Bool.{Decides}
-use Rattle.std.proofs.lemmas.Bool.{cases_eq, cases_lt, eqb-true, eq-eqb}
+use Rattle.std.proofs.lemmas.Bool.{cases_lt, eqb-true, eq-eqb}
 use Rattle.std.proofs.lemmas.List.{get_or_default, get_or-set_same, get_or-set_other, get_or-take, length-take-le, take_more_set}
 use Rattle.std.proofs.lemmas.Map.Made.{IsDistinct-from_AllPairs}
-use Rattle.uhura_net.specs.declared.edge.TheConstants.{NODES}
 use Rattle.uhura_net.specs.declared.place.Place.{Place}
 use Rattle.uhura_net.specs.Residual.{is_same_place, place_at}
 use Rattle.uhura_path.specs.declared.ways.Arc.{Arc}
-use Rattle.uhura_path.specs.declared.label.Step.{Step}
 use Rattle.uhura_path.specs.Ways.{Arcs, no_arc}
 use Rattle.uhura_path.specs.Walk.{IsWalk, arc_at, IsLeastRoom, IsPath}
 
@@ -21,7 +19,7 @@ abbrev no_place : Place
 no_place = record { 0 = 0 }
 
 -- a walk goes on along one more arc
-walk_more : (arcs : Arcs) (from : ℕ) (places : List Place) (backward : List Bool) (to cost : ℕ) (place : Place) (back : Bool) (arc : Arc) →
+pub walk_more : (arcs : Arcs) (from : ℕ) (places : List Place) (backward : List Bool) (to cost : ℕ) (place : Place) (back : Bool) (arc : Arc) →
     IsWalk arcs from places backward to cost → arcs place.0 back ≡ Some arc → arc.from ≡ to →
     IsWalk arcs from (places ++ place ∷ []) (backward ++ back ∷ []) arc.to (cost + arc.cost)
 walk_more arcs from [] [] to cost place back arc walk there starts = (arc, 0, there, starts ∙ sym walk.0, omega (arith, walk.1), (refl, refl))

@@ -4,3 +4,4 @@ pub mod Found
 pub mod Scratch
 pub mod Quest
 pub mod Search
+pub mod Reach

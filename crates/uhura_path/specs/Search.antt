@@ -1,5 +1,5 @@
 -- How a search spreads from its root against the arcs.
-use Rattle.std.specs.Prelude.{ℕ, ◌+◌, ◌<◌, ◌≤◌, ◌≡◌, ◌≢◌, ◌==◌, ◌⊎◌, min, Bool, true, false, if◌then◌else◌, List, length, count_by, Option, None, Some, MatchOption, slice_index_or, slice_set}
+use Rattle.std.specs.Prelude.{ℕ, ◌+◌, ◌<◌, ◌≤◌, ◌≡◌, ◌≢◌, ◌==◌, ◌⊎◌, min, Bool, true, false, if◌then◌else◌, List, length, count_by, Some, MatchOption, slice_index_or, slice_set}
 use Rattle.uhura_net.specs.declared.edge.TheConstants.{NODES}
 use Rattle.uhura_net.specs.declared.place.TheConstants.{PLACES}
 use Rattle.uhura_path.specs.declared.ways.Arc.{Arc}
@@ -133,7 +133,8 @@ pub record GoesOn (aim : Aim) (taken node level : ℕ) (old new : Spread) : Type
   pub grown : IsGrown aim (taken + 1) old new
 
 -- The nearest open node comes to the front of the open ones, in the place of another.
-pub record IsChosen (taken count : ℕ) (labels : List Label) (old new : List ℕ) (node : ℕ) : Type 0 where
+pub record IsChosen (taken count : ℕ) (labels : List Label) (old new : List ℕ) (node : ℕ) :
+    Type 0 where
   pub best : ℕ
   pub from : taken ≤ best
   pub within : best < count

@@ -36,8 +36,8 @@ pub record IsLeastRoom (arcs : Arcs) (places : List Place) (backward : List Bool
   pub reached : (arc_at arcs places backward step).room ≡ least
 
 -- a walk on which no node and no place stands twice
-pub record IsPath (arcs : Arcs) (from : ℕ) (places : List Place) (backward : List Bool) (to cost : ℕ) :
-    Type 0 where
+pub record IsPath (arcs : Arcs) (from : ℕ) (places : List Place) (backward : List Bool)
+    (to cost : ℕ) : Type 0 where
   pub walk : IsWalk arcs from places backward to cost
   pub once : (step later : ℕ) → step < later → later < length places →
       (arc_at arcs places backward step).from ≢ (arc_at arcs places backward later).from

@@ -1,5 +1,5 @@
 -- What may be walked, and what it costs.
-use Rattle.std.specs.Prelude.{ℕ, ◌<◌, ◌≤◌, ◌≡◌, ◌≢◌, nat_le, ℤ, pos, neg_ℤ, ◌≤ℤ◌, Bool, true, false, if◌then◌else◌, List, length, Option, None, Some, unwrap_or, slice_index_or}
+use Rattle.std.specs.Prelude.{ℕ, ◌<◌, ◌≤◌, ◌≡◌, nat_le, ℤ, pos, neg_ℤ, ◌≤ℤ◌, Bool, true, false, if◌then◌else◌, List, length, Option, None, Some}
 use Rattle.std.specs.Option.{option_map}
 use Rattle.std.specs.Int.RustNames.{unsigned_abs}
 use Rattle.uhura_net.specs.declared.edge.TheConstants.{NODES}
@@ -60,6 +60,15 @@ arc_of potentials edge = record {
 
 abbrev pub arcs_of : Walkable → (ℕ → ℤ) → Arcs
 arcs_of edges potentials place backward = option_map (arc_of potentials) (edges place backward)
+
+-- an arc that is gone along from its end to its start
+abbrev pub turned : Arc → Arc
+turned arc = record arc { from = arc.to; to = arc.from }
+
+-- arcs as they are, or all turned
+abbrev pub directed : Bool → Arcs → Arcs
+directed false arcs place backward = arcs place backward
+directed true arcs place backward = option_map turned (arcs place backward)
 
 -- an arc between two nodes whose cost keeps to the limit
 pub record IsSoundArc (arc : Arc) : Type 0 where

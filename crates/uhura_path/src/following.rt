@@ -80,8 +80,8 @@ pub(crate) fn follow_back(
         arc.to ≡ node → IsKept (aim_of quest.now)
         (record { labels = labels.new; order = order.new; front = front.new }) arc }
 {
-    let entering = quest.net.entering();
-    follow_list(quest, entering, false, node, distance, labels, order, front);
-    let leaving = quest.net.leaving();
-    follow_list(quest, leaving, true, node, distance, labels, order, front);
+    let forward = quest.lists(false);
+    follow_list(quest, forward, false, node, distance, labels, order, front);
+    let back = quest.lists(true);
+    follow_list(quest, back, true, node, distance, labels, order, front);
 }

@@ -19,3 +19,10 @@ pub struct Found<'a> {
     pub reached: &'a [u32],
     pub labels: &'a [Label],
 }
+
+/// The distance of each node, and a shortest path to one of them.
+#[derive(Clone, Copy, Debug)]
+pub struct Reach<'a> {
+    pub distances: &'a [Option<i64>],
+    pub path: Option<Path<'a>>,
+}

@@ -1,5 +1,5 @@
 //! What one search goes by.
-ghost use Rattle.std.specs.Prelude.{◌≡◌, ◌<◌, pos, neg_ℤ, ◌≤ℤ◌, IfSome};
+ghost use Rattle.std.specs.Prelude.{ℕ, ◌≡◌, ◌<◌, Some, pos, neg_ℤ, ◌≤ℤ◌, IfSome};
 ghost use Rattle.std.specs.Option.{option_map};
 ghost use Rattle.uhura_net.specs.declared.place.TheConstants.{PLACES};
 ghost use Rattle.uhura_net.specs.Edges.{time_at};
@@ -7,12 +7,14 @@ ghost use Rattle.uhura_net.specs.Optimal.{slack_of};
 ghost use Rattle.uhura_net.specs.Residual.{residual_edge};
 ghost use Rattle.uhura_net.specs.Net.{IsNetEdge};
 ghost use Rattle.uhura_net.specs.Place.{is_loose};
-ghost use Rattle.uhura_path.specs.Ways.{ArePotentials, arc_of, roomy_edge, IsSoundArc};
+ghost use Rattle.uhura_net.specs.Lists.{node_of, IsListing};
+ghost use Rattle.uhura_path.specs.declared.ways.Arc.{Arc};
+ghost use Rattle.uhura_path.specs.Ways.{ArePotentials, walkable, arc_of, arcs_of, roomy_edge, IsSoundArc};
 ghost use Rattle.uhura_path.specs.declared.ways.TheConstants.{MOST_COST};
 ghost use Rattle.uhura_path.specs.Quest.{IsQuest, aim_of};
 
 use crate::{Arc, Task, Ways};
-use uhura_net::{Edge, Net, Place, key_of};
+use uhura_net::{Edge, Lists, Net, Place, key_of};
 use uhura_plan::EdgeKey;
 
 /// A task over a net, with the mark of its labels.
@@ -23,14 +25,35 @@ pub(crate) struct Quest<'a> {
     pub(crate) potentials: &'a [i64],
     pub(crate) task: Task,
     pub(crate) mark: u32,
+    pub(crate) outward: bool,
 }
 
 impl Quest<'_> {
-    /// The arc at a place, forward or backward, where there is one.
+    /// The arc at a place, forward or backward, where there is one, turned where the search goes outward.
     pub(crate) fn arc(&self, place: Place, backward: bool) -> Option<Arc>
         requires place { place.0 < PLACES }
         requires quest { IsQuest self.now }
         ensures arc { result ≡ (aim_of self.now).arcs place.0 backward }
+        ensures sound { IfSome result IsSoundArc }
+    {
+        let arc = self.inward_arc(place, backward)?;
+        if self.outward {
+            Some(Arc {
+                from: arc.to,
+                to: arc.from,
+                ..arc
+            })
+        } else {
+            Some(arc)
+        }
+    }
+
+    /// The arc at a place as it is.
+    fn inward_arc(&self, place: Place, backward: bool) -> Option<Arc>
+        requires place { place.0 < PLACES }
+        requires quest { IsQuest self.now }
+        ensures arc { result ≡ arcs_of (walkable self.now.ways self.now.net.now)
+            (time_at self.now.potentials.now) place.0 backward }
         ensures sound { IfSome result IsSoundArc }
     {
         let edge = self.net.edge(place)?;
@@ -46,6 +69,19 @@ impl Quest<'_> {
                     Some(forward_arc(self.potentials, edge))
                 }
             }
+        }
+    }
+
+    /// The lists in which the arcs into a node are found, forward or backward.
+    pub(crate) fn lists(&self, backward: bool) -> &Lists
+        ensures sound { IsListing result.now }
+        ensures ends { (place : ℕ) (arc : Arc) →
+            (aim_of self.now).arcs place backward ≡ Some arc → arc.to ≡ node_of result.now place }
+    {
+        if self.outward == backward {
+            self.net.entering()
+        } else {
+            self.net.leaving()
         }
     }
 }

@@ -4,8 +4,8 @@ use std::alloc::{AllocError, Global};
 use std::marker::Model;
 use uhura_net::{NODES, Place};
 
-/// Room for a label for each node, for the nodes in the order in which they are reached, and for a path. Only `new`
-/// takes memory.
+/// Room for a label for each node, for the nodes in the order in which they are reached, for a path and for all
+/// distances. Only `new` takes memory.
 #[derive(Debug, Drop)]
 pub struct PathScratch {
     pub(crate) mark: u32,
@@ -13,6 +13,7 @@ pub struct PathScratch {
     pub(crate) order: Vec<u32>,
     pub(crate) places: Vec<Place>,
     pub(crate) backward: Vec<bool>,
+    pub(crate) distances: Vec<Option<i64>>,
 }
 
 impl Model for PathScratch {
@@ -24,7 +25,7 @@ impl Model for PathScratch {
     ghost view = { λ scratch. scratch.mark };
 
     ghost invariant = { λ scratch. IsScratch scratch.mark scratch.labels.items scratch.order.items
-        scratch.places.items scratch.backward.items };
+        scratch.places.items scratch.backward.items scratch.distances.items };
 }
 
 impl PathScratch {
@@ -36,6 +37,7 @@ impl PathScratch {
             order: vec![in alloc; 0; NODES]?,
             places: vec![in alloc; Place(0); NODES]?,
             backward: vec![in alloc; false; NODES]?,
+            distances: vec![in alloc; None; NODES]?,
         })
     }
 }

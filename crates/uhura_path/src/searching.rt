@@ -34,6 +34,7 @@ pub fn search<'a>(
         potentials,
         task,
         mark,
+        outward: false,
     };
     let (taken, front) = spread(&quest, &mut scratch.labels, &mut scratch.order);
     let Some(closing) = front.closing else {
@@ -64,7 +65,7 @@ pub fn search<'a>(
 }
 
 /// A mark that no label bears, behind the last one. Where that one was at its type's end, all labels are cleared.
-fn next_mark(last: u32, labels: &mut [Label]) -> u32
+pub(crate) fn next_mark(last: u32, labels: &mut [Label]) -> u32
     requires { AreMarkedTo last labels.old }
     ensures later { 1 ≤ result }
     ensures fresh { (node : ℕ) → (label_at labels.new node).mark < result }

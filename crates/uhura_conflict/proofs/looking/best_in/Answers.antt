@@ -4,7 +4,7 @@ use Rattle.slab.specs.Slab.{get}
 use Rattle.uhura_conflict.specs.declared.bound.Bound.{Bound}
 use Rattle.uhura_conflict.specs.Store.{AppliesAt, value_at, IsBestAmong}
 use Rattle.uhura_conflict.specs.Entries.{shown_as}
-use Rattle.uhura_conflict.proofs.Greatest.{Below, true_false, best-none, best-with_entry, best-without_entry, best-unexceeded, best-at_none, best-all}
+use Rattle.uhura_conflict.proofs.Greatest.{Below, true_false, best-none, best-exceeded, best-without_entry, best-unexceeded, best-at_none, best-all}
 use Rattle.uhura_conflict.proofs.looking.best_in.Goals as goal
 use Rattle.uhura_conflict.proofs.looking.best_in.Goals.{in-Some+then-exceeds+then-applies, in-Some+else-exceeds, else-exceeds-via-then-exceeds+else-applies, else-exceeds-via-else-exceeds, in_default}
 
@@ -21,8 +21,9 @@ loop-key-preserved c = λ order table worth.
     let Is : Bound → Type 0 = λ b. IsBestAmong (Below (n + 1) (AppliesAt (shown_as entries order table) picks)) (value_at (shown_as entries order table)) b in
     elim c.match-get.branch [
       | in-Some+then-exceeds+then-applies w ↦
-          subst Is (sym w.best-is) (subst Is (sym w.with_entry-best.ensures)
-          (best-with_entry entries order table picks n w.in-Some.entry.now best (sym w.in-Some.ensures) (w.applies.ensures.0 w.if-applies.true) worth so_far))
+          subst Is (sym w.best-is) (subst Is (sym w.bound_of-best.ensures)
+          (best-exceeded entries order table picks n w.in-Some.entry.now best (sym w.in-Some.ensures) (w.applies.ensures.0 w.if-applies.true)
+          (sym w.exceeds.ensures ∙ w.if-exceeds.true) worth so_far))
       | in-Some+else-exceeds w ↦ subst Is (sym w.best-is) (elim w.else-exceeds.branch [
         | else-exceeds-via-then-exceeds+else-applies v ↦
             best-without_entry entries order table picks n w.in-Some.entry.now best (sym w.in-Some.ensures) (λ it. true_false (v.applies.ensures.1 it) v.if-applies.false) so_far

@@ -1,19 +1,9 @@
 use Rattle.std.proofs.Common.{◌≡◌, ℕ, ◌+◌, Bool, true, false, Some, ◌∙◌, sym, arith}
-use Rattle.uhura_net.specs.Edges.{time_at}
 use Rattle.uhura_path.specs.declared.ways.Arc.{Arc}
 use Rattle.uhura_path.specs.Quest.{Aim, aim_of}
 use Rattle.uhura_path.specs.Search.{Spread, GoesOn, IsKept}
-use Rattle.uhura_path.proofs.Ends.{arc_ends-forward, arc_ends-backward}
 use Rattle.uhura_path.proofs.Listwalk.{IsKept-grown, GoesOn-trans}
 use Rattle.uhura_path.proofs.following.follow_back.Goals as goal
-
-pub follow_list-requires-clause-ends : goal.follow_list-requires-clause-ends
-follow_list-requires-clause-ends c =
-    arc_ends-forward c.args.quest.now.ways c.args.quest.now.net.now (time_at c.args.quest.now.potentials.now) c.entering-entering.result.now c.entering-entering.ensures
-
-pub follow_list-requires-2-clause-ends : goal.follow_list-requires-2-clause-ends
-follow_list-requires-2-clause-ends c =
-    arc_ends-backward c.args.quest.now.ways c.args.quest.now.net.now (time_at c.args.quest.now.potentials.now) c.leaving-leaving.result.now c.leaving-leaving.ensures
 
 pub returns-clause-on : goal.returns-clause-on
 returns-clause-on c = λ taken at.

@@ -1,8 +1,7 @@
-use Rattle.std.proofs.Common.{◌≡◌, ℕ, ◌+◌, ◌∙◌, sym, arith}
-use Rattle.uhura_path.specs.declared.ways.Arc.{Arc}
+use Rattle.std.proofs.Common.{◌+◌, ◌∙◌, sym, arith}
 use Rattle.uhura_path.specs.Quest.{Aim, aim_of}
 use Rattle.uhura_path.specs.Search.{Spread}
-use Rattle.uhura_path.proofs.Listwalk.{IsKept-grown, GoesOn-trans, HasMet-first, HasMet-next, AreMet}
+use Rattle.uhura_path.proofs.Listwalk.{IsKept-grown, GoesOn-trans, HasMet-next, AreMet}
 use Rattle.uhura_path.proofs.following.follow_list.Goals as goal
 
 pub relax-requires-clause-ends : goal.relax-requires-clause-ends

@@ -1,8 +1,7 @@
-use Rattle.std.proofs.Common.{◌≡◌, ℕ, ◌<◌, ℤ, pos, ◌+ℤ◌, ◌-ℤ◌, to_z, of_z, length, get_or, slice_index_or, sym, ap, ◌∙◌, arith}
+use Rattle.std.proofs.Common.{◌≡◌, pos, ◌+ℤ◌, ◌-ℤ◌, to_z, of_z, slice_index_or, sym, ap, ◌∙◌, arith}
 use mir.Syntax.{w64}
 use Rattle.std.proofs.lemmas.Int.{ints}
 use Rattle.uhura_net.specs.Edges.{time_at}
-use Rattle.uhura_path.specs.Found.{IsReached}
 use Rattle.uhura_path.proofs.Raising.{IsLiftedSoFar-more, IsLifted-done}
 use Rattle.uhura_path.proofs.lifting.lift.Goals as goal
 

@@ -1,9 +1,9 @@
-use Rattle.std.proofs.Common.{◌≡◌, ℕ, ◌+◌, ◌<◌, ◌≤◌, Bool, Some, ◌∙◌, sym, ap, subst, inl, inr, arith}
+use Rattle.std.proofs.Common.{◌≡◌, ℕ, ◌+◌, ◌<◌, Bool, Some, ◌∙◌, ap, subst, inl, inr, arith}
 use Rattle.std.proofs.lemmas.Bool.{cases_lt}
 use Rattle.uhura_net.specs.declared.edge.TheConstants.{NODES}
 use Rattle.uhura_path.specs.declared.ways.Arc.{Arc}
 use Rattle.uhura_path.specs.Quest.{Aim, aim_of}
-use Rattle.uhura_path.specs.Search.{Spread, node_at, IsSpread, AreKept, IsAtNode, GoesOn, IsKept, IsOver}
+use Rattle.uhura_path.specs.Search.{Spread, node_at, IsSpread, AreKept, GoesOn, IsKept, IsOver}
 use Rattle.uhura_path.proofs.Noting.{few_listed}
 use Rattle.uhura_path.proofs.Listwalk.{IsKept-grown}
 use Rattle.uhura_path.proofs.Swapping.{IsSpread-swapped, AreKept-swapped, far_least, node_inside, IsAtNode-taken}

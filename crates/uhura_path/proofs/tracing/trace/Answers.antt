@@ -1,11 +1,11 @@
-use Rattle.std.proofs.Common.{◌≡◌, ℕ, ◌+◌, ◌^◌, ◌<◌, ◌≤◌, min, List, length, take, set, None, Some, Fits, w64, refl, sym, subst, ◌∙◌, arith, rules}
+use Rattle.std.proofs.Common.{◌≡◌, ℕ, ◌+◌, ◌<◌, min, length, take, set, None, Some, Fits, w64, refl, sym, subst, ◌∙◌, arith, rules}
 use Rattle.uhura_net.specs.Edges.{time_at}
-use Rattle.uhura_path.specs.declared.front.Front.{Front}
-use Rattle.uhura_path.specs.Walk.{IsPath, IsLeastRoom}
+use Rattle.uhura_path.specs.Ways.{Arcs, walkable, arcs_of}
+use Rattle.uhura_path.specs.Walk.{IsLeastRoom}
 use Rattle.uhura_path.specs.Found.{label_at}
-use Rattle.uhura_path.specs.Quest.{Aim, aim_of}
+use Rattle.uhura_path.specs.Quest.{aim_of}
 use Rattle.uhura_path.specs.Search.{Spread}
-use Rattle.uhura_path.proofs.Ends.{AreOpposite-arcs}
+use Rattle.uhura_path.proofs.Ends.{AreOpposite-arcs, AreOpposite-directed}
 use Rattle.uhura_path.proofs.Backtrack.{IsTraced, few_done, IsTraced-first, IsTraced-more, IsPath-traced}
 use Rattle.uhura_path.proofs.tracing.trace.Goals as goal
 
@@ -28,11 +28,13 @@ returns-then-arc-quest-clause-path c = λ taken order front closed.
     let loop = c.loop-count in
     let spread : Spread = record { labels = c.args.labels.now; order = order; front = front } in
     let quest = c.args.quest.now in
+    let arcs : Arcs = arcs_of (walkable quest.ways quest.net.now) (time_at quest.potentials.now) in
+    let opposite = AreOpposite-directed quest.outward arcs (AreOpposite-arcs quest.ways quest.net.now (time_at quest.potentials.now)) in
     let fits : Fits w64 c.in-Some.arc.room = search rules in
     let in_places : loop.count < length loop.places = omega (arith, loop.auto.places, c.requires.places, c.loop-count-test.true) in
     let in_backward : loop.count < length loop.backward = omega (arith, loop.auto.backward, c.requires.backward, c.loop-count-test.true) in
     (IsPath-traced (aim_of quest) taken spread closed.over loop.count loop.step loop.least loop.places loop.backward c.in-Some.arc (loop.invariant taken order front closed)
-    in_places in_backward (sym c.arc.ensures.arc ∙ c.in-Some.is) (omega (arith, fits)) (AreOpposite-arcs quest.ways quest.net.now (time_at quest.potentials.now)) c.if-arc-quest.true).0
+    in_places in_backward (sym c.arc.ensures.arc ∙ c.in-Some.is) (omega (arith, fits)) opposite c.if-arc-quest.true).0
 
 pub returns-then-arc-quest-clause-least : goal.returns-then-arc-quest-clause-least
 returns-then-arc-quest-clause-least c =
@@ -43,12 +45,14 @@ returns-then-arc-quest-clause-least c =
     let closed = c.requires.over.3 in
     let spread : Spread = record { labels = c.args.labels.now; order = order; front = front } in
     let quest = c.args.quest.now in
+    let arcs : Arcs = arcs_of (walkable quest.ways quest.net.now) (time_at quest.potentials.now) in
+    let opposite = AreOpposite-directed quest.outward arcs (AreOpposite-arcs quest.ways quest.net.now (time_at quest.potentials.now)) in
     let fits : Fits w64 c.in-Some.arc.room = search rules in
     let in_places : loop.count < length loop.places = omega (arith, loop.auto.places, c.requires.places, c.loop-count-test.true) in
     let in_backward : loop.count < length loop.backward = omega (arith, loop.auto.backward, c.requires.backward, c.loop-count-test.true) in
     let least : min loop.least c.in-Some.arc.room ≡ c.min-least.result = omega (arith, c.min-least.ensures) in
     let path = IsPath-traced (aim_of quest) taken spread closed.over loop.count loop.step loop.least loop.places loop.backward c.in-Some.arc (loop.invariant taken order front closed)
-    in_places in_backward (sym c.arc.ensures.arc ∙ c.in-Some.is) (omega (arith, fits)) (AreOpposite-arcs quest.ways quest.net.now (time_at quest.potentials.now)) c.if-arc-quest.true in
+    in_places in_backward (sym c.arc.ensures.arc ∙ c.in-Some.is) (omega (arith, fits)) opposite c.if-arc-quest.true in
     let P : ℕ → Type 0 = λ n. IsLeastRoom (aim_of quest).arcs (take (loop.count + 1) (set loop.places loop.count loop.step.place))
     (take (loop.count + 1) (set loop.backward loop.count loop.step.backward)) n in
     subst P least path.1
@@ -58,6 +62,8 @@ loop-count-preserved c = λ taken order front closed.
     let loop = c.loop-count in
     let spread : Spread = record { labels = c.args.labels.now; order = order; front = front } in
     let quest = c.args.quest.now in
+    let arcs : Arcs = arcs_of (walkable quest.ways quest.net.now) (time_at quest.potentials.now) in
+    let opposite = AreOpposite-directed quest.outward arcs (AreOpposite-arcs quest.ways quest.net.now (time_at quest.potentials.now)) in
     let fits : Fits w64 c.in-Some.arc.room = search rules in
     let in_places : loop.count < length loop.places = omega (arith, loop.auto.places, c.requires.places, c.loop-count-test.true) in
     let in_backward : loop.count < length loop.backward = omega (arith, loop.auto.backward, c.requires.backward, c.loop-count-test.true) in

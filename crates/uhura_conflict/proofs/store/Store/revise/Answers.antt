@@ -1,15 +1,32 @@
-use Rattle.std.proofs.Common.{List, Option, subst, sym}
+use Rattle.std.proofs.Common.{List, Option, sym, subst}
 use Rattle.uhura_net.specs.declared.edge.Edge.{Edge}
 use Rattle.uhura_conflict.specs.Store.{Stored, IsStore, Revises}
-use Rattle.uhura_conflict.specs.Entries.{shown_as}
-use Rattle.uhura_conflict.proofs.Keeping.{IsHeldStore, revises, held-revised}
+use Rattle.uhura_conflict.specs.Entries.{shown_as, IsHeldStore}
+use Rattle.uhura_conflict.proofs.Keeping.{kept_for, unchanged-revises, revises, held-revised}
 use Rattle.uhura_conflict.proofs.store.Store.revise.Goals as goal
 
-pub invariant_of-self : goal.invariant_of-self
-invariant_of-self c =
+pub returns-then-not-mark_changed-clause-revised : goal.returns-then-not-mark_changed-clause-revised
+returns-then-not-mark_changed-clause-revised c =
     let inside = c.self.inside in
-    subst (λ (table : List (Option Edge)). IsHeldStore c.revise_all.new.entries c.keep_held.new.order.items table) (sym c.copy_table.ensures)
-    (held-revised inside.entries c.revise_all.new.entries inside.order.items c.keep_held.new.order.items inside.table c.args.table.now c.revise_all.ensures c.keep_held.ensures c.self.invariant.0)
+    let shown = shown_as inside.entries inside.order.items inside.table in
+    subst (λ (store : Stored). Revises store shown c.args.table.now) c.self.view_is
+    (unchanged-revises inside.entries inside.order.items inside.table c.args.table.now c.mark_changed.new.changed.items c.self.invariant.0 c.mark_changed.ensures.marked
+    (c.mark_changed.ensures.same c.if-not-mark_changed.true))
+
+pub revise_all-requires-clause-marked : goal.revise_all-requires-clause-marked
+revise_all-requires-clause-marked c = rw c.deref.ensures.value c.mark_changed.ensures.marked
+
+pub revise_all-requires-clause-kept : goal.revise_all-requires-clause-kept
+revise_all-requires-clause-kept c = kept_for c.self.inside.entries c.self.inside.order.items c.self.inside.table c.self.invariant.0
+
+pub invariant_of-self-2 : goal.invariant_of-self-2
+invariant_of-self-2 c =
+    let inside = c.self.inside in (
+      subst (λ (table : List (Option Edge)). IsHeldStore c.revise_all.new.entries c.keep_held.new.order.items table) (sym c.copy_table.ensures)
+          (held-revised inside.entries c.revise_all.new.entries inside.order.items c.keep_held.new.order.items inside.table c.args.table.now c.revise_all.ensures c.keep_held.ensures
+          c.self.invariant.0.sound),
+      c.mark_changed.ensures.marked.places,
+    )
 
 pub returns-clause-revised : goal.returns-clause-revised
 returns-clause-revised c =
@@ -22,4 +39,5 @@ pub returns-clause-sound : goal.returns-clause-sound
 returns-clause-sound c =
     let inside = c.self.inside in
     subst (λ (table : List (Option Edge)). IsStore (shown_as c.revise_all.new.entries c.keep_held.new.order.items table)) (sym c.copy_table.ensures)
-    (held-revised inside.entries c.revise_all.new.entries inside.order.items c.keep_held.new.order.items inside.table c.args.table.now c.revise_all.ensures c.keep_held.ensures c.self.invariant.0).0
+    (held-revised inside.entries c.revise_all.new.entries inside.order.items c.keep_held.new.order.items inside.table c.args.table.now c.revise_all.ensures c.keep_held.ensures
+    c.self.invariant.0.sound).sound

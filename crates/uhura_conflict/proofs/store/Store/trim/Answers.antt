@@ -1,17 +1,19 @@
 use Rattle.std.proofs.Common.{ℕ, ◌<◌, ◌≤◌, List, drop, length, ap, sym, subst, arith}
 use Rattle.uhura_conflict.specs.Store.{Stored, IsStore, Trims}
-use Rattle.uhura_conflict.specs.Entries.{shown_as, pairs_among}
-use Rattle.uhura_conflict.proofs.Keeping.{IsHeldStore, held-left, trims}
+use Rattle.uhura_conflict.specs.Entries.{shown_as, IsHeldStore, pairs_among}
+use Rattle.uhura_conflict.proofs.Keeping.{held-left, trims}
 use Rattle.uhura_conflict.proofs.store.Store.trim.Goals as goal
 
 pub invariant_of-self : goal.invariant_of-self
-invariant_of-self c =
-    let inside = c.self.inside in
-    let order = inside.order.items in
-    let count = c.given_up-count.result in
-    let few : count ≤ length order = omega (arith, c.given_up-count.ensures.count, ap length c.deref.ensures.value) in
-    subst (λ (keys : List ℕ). IsHeldStore c.give_up.new.entries keys inside.table) (sym c.give_up.ensures.order)
-    (held-left inside.entries c.give_up.new.entries order inside.table c.args.most count few c.give_up.ensures.given_up c.give_up.ensures.others c.give_up.ensures.either c.self.invariant)
+invariant_of-self c = (
+  let inside = c.self.inside in
+      let order = inside.order.items in
+      let count = c.given_up-count.result in
+      let few : count ≤ length order = omega (arith, c.given_up-count.ensures.count, ap length c.deref.ensures.value) in
+      subst (λ (keys : List ℕ). IsHeldStore c.give_up.new.entries keys inside.table) (sym c.give_up.ensures.order)
+      (held-left inside.entries c.give_up.new.entries order inside.table c.args.most count few c.give_up.ensures.given_up c.give_up.ensures.others c.give_up.ensures.either c.self.invariant.0),
+  c.self.invariant.1,
+)
 
 pub returns-clause-trimmed : goal.returns-clause-trimmed
 returns-clause-trimmed c =
@@ -26,7 +28,7 @@ returns-clause-trimmed c =
       count,
       subst (λ (keys : List ℕ). Trims c.args.self.now (shown_as c.give_up.new.entries keys inside.table) c.args.most count) (sym c.give_up.ensures.order)
           (subst (λ (store : Stored). Trims store (shown_as c.give_up.new.entries (drop count order) inside.table) c.args.most count) c.self.view_is
-          (trims inside.entries c.give_up.new.entries order inside.table c.args.most count few c.give_up.ensures.given_up c.give_up.ensures.others c.give_up.ensures.either c.self.invariant within fewest)),
+          (trims inside.entries c.give_up.new.entries order inside.table c.args.most count few c.give_up.ensures.given_up c.give_up.ensures.others c.give_up.ensures.either c.self.invariant.0 within fewest)),
     )
 
 pub returns-clause-sound : goal.returns-clause-sound
@@ -36,4 +38,4 @@ returns-clause-sound c =
     let count = c.given_up-count.result in
     let few : count ≤ length order = omega (arith, c.given_up-count.ensures.count, ap length c.deref.ensures.value) in
     subst (λ (keys : List ℕ). IsStore (shown_as c.give_up.new.entries keys inside.table)) (sym c.give_up.ensures.order)
-    (held-left inside.entries c.give_up.new.entries order inside.table c.args.most count few c.give_up.ensures.given_up c.give_up.ensures.others c.give_up.ensures.either c.self.invariant).0
+    (held-left inside.entries c.give_up.new.entries order inside.table c.args.most count few c.give_up.ensures.given_up c.give_up.ensures.others c.give_up.ensures.either c.self.invariant.0).sound

@@ -1,4 +1,4 @@
-use Rattle.std.proofs.Common.{◌≡◌, ℕ, ◌≤◌, false, List, length, replicate, ap, ◌∙◌, arith}
+use Rattle.std.proofs.Common.{◌≡◌, ℕ, false, List, length, replicate, ap, ◌∙◌, arith}
 use Rattle.std.proofs.lemmas.List.{length-replicate}
 use Rattle.uhura_plan.proofs.Slots.{get_or-replicate_default}
 use Rattle.uhura_net.specs.declared.edge.TheConstants.{NODES}
@@ -25,5 +25,6 @@ invariant_of-result c =
       ordered = ap length order ∙ length-replicate {A = ℕ} NODES 0;
       placed = ap length places ∙ length-replicate {A = Place} NODES (record { 0 = 0 });
       turned = ap length backward ∙ length-replicate NODES false;
+      told = omega (arith, c.in_ok-vec-5.ensures.len, c.in_ok-vec-5.field-0.ok.0);
       marked = AreMarkedTo-new _ labels;
     }

@@ -1,0 +1,18 @@
+-- Where two tables may differ.
+use Rattle.std.specs.Prelude.{◌≡◌, ℕ, ◌<◌, Bool, false, List, Option, IfSome, length, slice_index_or}
+use Rattle.uhura_net.specs.declared.edge.Edge.{Edge}
+use Rattle.uhura_net.specs.declared.place.Place.{Place}
+use Rattle.uhura_net.specs.declared.place.TheConstants.{PLACES}
+use Rattle.uhura_net.specs.Table.{IsEdgeFor}
+use Rattle.uhura_net.specs.Circulation.{edges_of}
+
+-- no mark stands at the place of a pair
+abbrev pub IsUnmarked : List Bool → Place × ℕ → Type 0
+IsUnmarked changed pair = slice_index_or changed pair.0.0 false ≡ false
+
+-- the tables have the same edge at each place without a mark, and each edge of the old one may stand where it does
+pub record AreMarked (old new : List (Option Edge)) (changed : List Bool) : Type 0 where
+  pub places : length changed ≡ PLACES
+  pub unmarked : (place : ℕ) → place < PLACES → slice_index_or changed place false ≡ false →
+      edges_of new place ≡ edges_of old place
+  pub sound : (place : ℕ) → IfSome (edges_of old place) (IsEdgeFor place)

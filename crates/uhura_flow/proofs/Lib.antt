@@ -1,0 +1,16 @@
+mod Gaps
+mod Emptying
+mod Drawing
+mod Lowering
+mod Rounds
+mod Marking
+mod Kept
+mod Cycling
+mod Ways
+mod Trails
+mod Readiness
+mod Looping
+mod Emptied
+mod Settling
+mod Closing
+mod Changing
