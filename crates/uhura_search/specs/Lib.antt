@@ -1,5 +1,6 @@
 pub mod Answer
 pub mod Appended
 pub mod Closed
+pub mod Moving
 pub mod Searcher
 pub mod Shut

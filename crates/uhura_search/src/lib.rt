@@ -8,6 +8,7 @@ mod cover;
 mod incumbent;
 pub mod laws;
 mod leaf;
+pub mod moving;
 mod outcome;
 mod shut;
 
