@@ -13,8 +13,14 @@ use Rattle.uhura_net.specs.declared.place.TheConstants.{PLACES}
 use Rattle.uhura_net.specs.Circulation.{edges_of}
 use Rattle.uhura_net.specs.Net.{NetState}
 use Rattle.uhura_flow.specs.Flow.{FlowState, flow_edges}
-use Rattle.uhura_worst.specs.Edges.{item_of, is_active_item}
-use Rattle.uhura_dual.specs.Settled.{key_at}
+use Rattle.uhura_worst.specs.Edges.{item_of, is_active_item, is_active_edge}
+use Rattle.uhura_dual.specs.Settled.{key_at, AreSettled, AreAllSettled}
+use Rattle.uhura_dual.proofs.KeysAt.{key_at-place_number}
+use Rattle.uhura_dual.proofs.Settling.{all-settled}
+use Rattle.uhura_plan.specs.declared.key.EdgeKey.{EdgeKey}
+use Rattle.uhura_net.specs.Place.{place_number}
+use Rattle.uhura_veto.specs.State.{State}
+use Rattle.uhura_worst.specs.Filled.{IsTableOf}
 use Rattle.uhura_search.specs.Moving.{AreAmong, HasAll, is_loose_at, put_at, HasMarks, is_marked, is_marked_at, marked_edges, active_edges}
 use Rattle.uhura_search.specs.declared.moving.Moved.{Moved}
 use Rattle.uhura_search.specs.declared.moving.Moved.TheVariants.{Holds, Stuck}
@@ -189,3 +195,21 @@ put-active a b c d one other Holds same taken first second =
     record { edges = λ place. both.edges place ∙ same place; unsettled = unsettled-both a b d taken both.unsettled }
 put-active a b c d one other Stuck same taken first second =
     stuck-same a d one other same (stuck-after a c d one (unsettled-both a b c taken first.unsettled) second)
+
+-- in a table of a state the active edges are the settled ones
+pub active-all : (state : State) (picks : List Pick) (table : List (Option Edge)) → IsTableOf state table → length table ≡ PLACES → AreAllSettled state picks (active_edges table state.plan picks)
+active-all state picks table is_table places = record {
+  each = λ key placed.
+      ap (λ (k : EdgeKey). if is_active_edge state.plan picks k then edges_of table (place_number key) else None) (key_at-place_number key placed)
+      ∙ ap (λ (edge : Option Edge). if is_active_edge state.plan picks key then edge else None) (is_table key placed);
+  none = λ place behind. by (is_active_edge state.plan picks (key_at place)) (get_or-eq_default table None (omega (arith, places, behind)));
+}
+  where
+    by : (b : Bool) → {edge : Option Edge} → edge ≡ None → (if b then edge else None) ≡ None
+    by true none = none
+    by false none = refl
+
+pub active-some : (state : State) (picks : List Pick) (table : List (Option Edge)) (few : Edges) → IsTableOf state table → length table ≡ PLACES → AreAmong few (active_edges table state.plan picks) →
+    AreSettled state picks few
+active-some state picks table few is_table places among place edge is =
+    all-settled state picks (active_edges table state.plan picks) (active-all state picks table is_table places) place edge (among place edge is)

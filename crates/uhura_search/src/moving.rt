@@ -1,7 +1,14 @@
 //! From branch to branch: a flow gets the edges that are active after some first picks.
-ghost use Rattle.std.specs.Prelude.{◌≡◌, ◌<◌, ℕ, false, IfSome, length, replicate, slice_index_or};
+ghost use Rattle.std.specs.Prelude.{◌≡◌, ◌<◌, ℕ, false, IfSome, List, Option, length, replicate};
 ghost use Rattle.uhura_plan.specs.declared.limits.TheConstants.{REQUIREMENTS};
 ghost use Rattle.uhura_flow.specs.Flow.{flow_edges, IsFlow, IsFlowEdge, AreFlowEdges};
+ghost use Rattle.uhura_choice.specs.declared.prefix.Pick.{Pick};
+ghost use Rattle.uhura_net.specs.declared.edge.Edge.{Edge};
+ghost use Rattle.uhura_net.specs.declared.place.TheConstants.{PLACES};
+ghost use Rattle.uhura_net.specs.Edges.{Edges};
+ghost use Rattle.uhura_veto.specs.State.{State};
+ghost use Rattle.uhura_worst.specs.Filled.{IsTableOf};
+ghost use Rattle.uhura_dual.specs.Settled.{AreSettled, AreAllSettled};
 ghost use Rattle.uhura_search.specs.Moving.{HasMarks, is_marked_at, is_loose_at, marked_edges, active_edges, AreAmong};
 ghost use Rattle.uhura_search.specs.Moving.{IsTakenOut, HasTakenAt, IsPutIn, IsPutAt, IsMoved};
 
@@ -143,3 +150,14 @@ fn put_at(flow: &mut Flow, place: Place, edge: Option<Edge>) -> Moved
         Settled::Stuck => Moved::Stuck,
     }
 }
+
+/// Where a table is that of a state, the edges in it that are active after some picks are the settled ones, all of
+/// them; so edges among them are settled.
+pub fn active_edges_are_settled()
+    ensures all { (state : State) (picks : List Pick) (table : List (Option Edge)) →
+        IsTableOf state table → length table ≡ PLACES →
+        AreAllSettled state picks (active_edges table state.plan picks) }
+    ensures some { (state : State) (picks : List Pick) (table : List (Option Edge)) (few : Edges) →
+        IsTableOf state table → length table ≡ PLACES →
+        AreAmong few (active_edges table state.plan picks) → AreSettled state picks few }
+{}
