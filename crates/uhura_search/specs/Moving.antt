@@ -1,5 +1,5 @@
 -- What a move from branch to branch leaves of a flow.
-use Rattle.std.specs.Prelude.{◌≡◌, ℕ, ◌+◌, ◌-◌, ◌^◌, ◌<◌, ◌≤◌, min, Bool, true, false, if◌then◌else◌, List, length, Option, None, Some, slice_index_or, slice_set}
+use Rattle.std.specs.Prelude.{◌≡◌, ℕ, ◌+◌, ◌-◌, ◌^◌, ◌≤◌, min, Bool, true, false, if◌then◌else◌, List, length, Option, None, Some, slice_index_or, slice_set}
 use Rattle.uhura_plan.specs.declared.key.Item.{Item}
 use Rattle.uhura_plan.specs.declared.key.Item.TheVariants as item
 use Rattle.uhura_plan.specs.Lists.{Lists}
@@ -11,11 +11,8 @@ use Rattle.uhura_net.specs.Edges.{Edges}
 use Rattle.uhura_net.specs.Walk.{IsNegativeWalk}
 use Rattle.uhura_net.specs.Circulation.{edges_of}
 use Rattle.uhura_net.specs.Optimal.{firm_edges}
-use Rattle.uhura_flow.specs.Flow.{FlowState, flow_edges, IsFlow}
-use Rattle.uhura_veto.specs.declared.veto.Veto.{Veto}
-use Rattle.uhura_veto.specs.State.{State}
+use Rattle.uhura_flow.specs.Flow.{FlowState, flow_edges}
 use Rattle.uhura_worst.specs.Edges.{item_of, is_active_item, is_active_edge}
-use Rattle.uhura_worst.specs.Filled.{IsTableOf}
 use Rattle.uhura_dual.specs.Settled.{key_at}
 use Rattle.uhura_search.specs.declared.moving.Moved.{Moved}
 use Rattle.uhura_search.specs.declared.moving.Moved.TheVariants.{Holds, Stuck}

@@ -1,4 +1,3 @@
-use Rattle.std.proofs.Common.{◌≡◌, ℕ}
 use Rattle.uhura_search.specs.Moving.{marked_edges, active_edges}
 use Rattle.uhura_search.proofs.Putting.{marked-active, stuck-after, stuck-same, put-active}
 use Rattle.uhura_search.proofs.moving.move_to.Goals as goal

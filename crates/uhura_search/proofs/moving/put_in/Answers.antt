@@ -1,7 +1,7 @@
-use Rattle.std.proofs.Common.{rules, ◌≡◌, ℕ, Bool, sym, ap, subst, ◌∙◌, arith}
+use Rattle.std.proofs.Common.{rules, ◌≡◌, ℕ, ap, subst, ◌∙◌, arith}
 use Rattle.uhura_net.specs.declared.place.TheConstants.{PLACES}
 use Rattle.uhura_flow.specs.Flow.{flow_edges}
-use Rattle.uhura_search.specs.Moving.{marked_edges, is_loose_at, put_at}
+use Rattle.uhura_search.specs.Moving.{marked_edges, put_at}
 use Rattle.uhura_search.proofs.Putting.{AreThereBelow, put-among, put-kept, put-there, there-more, there-all, unsettled-both, stuck-among}
 use Rattle.uhura_search.proofs.moving.put_in.Goals as goal
 
