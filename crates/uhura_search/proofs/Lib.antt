@@ -1,5 +1,6 @@
 pub mod Appending
 pub mod Enough
+pub mod FlowBounds
 pub mod Found
 pub mod Marking
 pub mod Putting

@@ -1,12 +1,15 @@
 -- What a move from branch to branch leaves of a flow.
-use Rattle.std.specs.Prelude.{◌≡◌, ℕ, ◌+◌, ◌-◌, ◌^◌, ◌≤◌, min, Bool, true, false, if◌then◌else◌, List, length, Option, None, Some, slice_index_or, slice_set}
+use Rattle.std.specs.Prelude.{IfSome, ◌≡◌, ℕ, ◌+◌, ◌-◌, ◌^◌, ◌≤◌, min, Bool, true, false, if◌then◌else◌, List, length, Option, None, Some, slice_index_or, slice_set}
 use Rattle.uhura_plan.specs.declared.key.Item.{Item}
 use Rattle.uhura_plan.specs.declared.key.Item.TheVariants as item
 use Rattle.uhura_plan.specs.Lists.{Lists}
 use Rattle.uhura_choice.specs.declared.prefix.Pick.{Pick}
 use Rattle.uhura_net.specs.declared.edge.Edge.{Edge}
 use Rattle.uhura_net.specs.declared.place.TheConstants.{PLACES}
-use Rattle.uhura_net.specs.Place.{is_loose_key}
+use Rattle.uhura_net.specs.Place.{HasPlace, is_loose_key}
+use Rattle.uhura_plan.specs.declared.key.EdgeKey.{EdgeKey}
+use Rattle.uhura_flow.specs.Loops.{IsBoundOf}
+use Rattle.uhura_worst.specs.Filled.{entry_at}
 use Rattle.uhura_net.specs.Edges.{Edges}
 use Rattle.uhura_net.specs.Walk.{IsNegativeWalk}
 use Rattle.uhura_net.specs.Circulation.{edges_of}
@@ -120,3 +123,8 @@ pub record HasMoved (old new : FlowState) (wanted : Edges) : Type 0 where
 abbrev pub IsMoved : FlowState → FlowState → Edges → Moved → Type 0
 IsMoved old new wanted Holds = HasMoved old new wanted
 IsMoved old new wanted Stuck = IsStuckAmong old new wanted
+
+-- each edge of a table has a bound from -2,000,000,000 to 2,000,000,000, as an edge of a flow has
+abbrev pub HasFlowBounds : List (Option Edge) → Type 0
+HasFlowBounds table =
+    (key : EdgeKey) → HasPlace key → IfSome (entry_at table key) (λ edge. IsBoundOf edge.bound)

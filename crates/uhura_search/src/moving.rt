@@ -6,11 +6,13 @@ ghost use Rattle.uhura_choice.specs.declared.prefix.Pick.{Pick};
 ghost use Rattle.uhura_net.specs.declared.edge.Edge.{Edge};
 ghost use Rattle.uhura_net.specs.declared.place.TheConstants.{PLACES};
 ghost use Rattle.uhura_net.specs.Edges.{Edges};
+ghost use Rattle.uhura_plan.specs.Sound.{IsSound};
+ghost use Rattle.uhura_veto.specs.Vetoes.{AreSoundVetoes};
 ghost use Rattle.uhura_veto.specs.State.{State};
 ghost use Rattle.uhura_worst.specs.Filled.{IsTableOf};
 ghost use Rattle.uhura_dual.specs.Settled.{AreSettled, AreAllSettled};
 ghost use Rattle.uhura_search.specs.Moving.{HasMarks, is_marked_at, is_loose_at, marked_edges, active_edges, AreAmong};
-ghost use Rattle.uhura_search.specs.Moving.{IsTakenOut, HasTakenAt, IsPutIn, IsPutAt, IsMoved};
+ghost use Rattle.uhura_search.specs.Moving.{HasFlowBounds, IsTakenOut, HasTakenAt, IsPutIn, IsPutAt, IsMoved};
 
 use uhura_choice::{Prefix, holds};
 use uhura_flow::{Flow, Settled};
@@ -160,4 +162,10 @@ pub fn active_edges_are_settled()
     ensures some { (state : State) (picks : List Pick) (table : List (Option Edge)) (few : Edges) →
         IsTableOf state table → length table ≡ PLACES →
         AreAmong few (active_edges table state.plan picks) → AreSettled state picks few }
+{}
+
+/// In a table of a state all bounds are within those of a flow.
+pub fn tables_of_states_have_bounds_of_flows()
+    ensures { (state : State) (table : List (Option Edge)) → IsSound state.plan →
+        AreSoundVetoes state.vetoes → IsTableOf state table → HasFlowBounds table }
 {}
