@@ -1,7 +1,7 @@
 -- The bounds of the edges of a state are within those of a flow.
-use Rattle.std.proofs.Common.{rules, ◌≡◌, ℕ, ◌≤◌, List, All, ◌++◌, Option, None, Some, Contains, refl, sym, ap, subst, ◌∙◌, arith}
+use Rattle.std.proofs.Common.{◌≡◌, ℕ, ◌≤◌, Bool, true, false, List, All, ◌++◌, Option, None, Some, refl, sym, ap, subst, ◌∙◌, arith}
 use Rattle.std.proofs.lemmas.Int.{ints}
-use Rattle.std.specs.Prelude.{ℤ, pos, ◌+ℤ◌, ◌-ℤ◌, neg_ℤ, nat_abs, IfSome, option_map, option_and_then, option_to_list, slice_get}
+use Rattle.std.specs.Prelude.{ℤ, pos, ◌+ℤ◌, neg_ℤ, IfSome, option_map, option_and_then, option_to_list, slice_get}
 use Rattle.uhura_plan.specs.declared.key.Side.{Side}
 use Rattle.uhura_plan.specs.declared.key.Side.TheVariants.{Lower, Upper}
 use Rattle.uhura_plan.specs.declared.key.SideKey.{SideKey}
@@ -16,10 +16,19 @@ use Rattle.uhura_plan.specs.declared.requirement.Requirement.{Requirement}
 use Rattle.uhura_plan.specs.declared.uncertain.Uncertain.{Uncertain}
 use Rattle.uhura_plan.specs.Limits.{IsBound, IsAmount, IsRate, IsSecond, IsPrice}
 use Rattle.uhura_plan.specs.Sound.{IsSound, IsSoundUncertain}
-use Rattle.uhura_plan.specs.Sides.{loosening_rate, rate_of, bounded_of}
+use Rattle.uhura_plan.specs.Sides.{loosening_rate, rate_of}
 use Rattle.uhura_plan.specs.Find.{requirement_in}
 use Rattle.uhura_net.specs.declared.edge.Edge.{Edge}
-use Rattle.uhura_net.specs.Place.{HasPlace}
+use Rattle.std.specs.Bool.{MatchBool}
+use Rattle.uhura_plan.specs.Limits.{IsUnitPrice}
+use Rattle.uhura_net.specs.declared.edge.TheConstants.{FIRM_CAPACITY}
+use Rattle.uhura_net.specs.Table.{IsEdgeFor}
+use Rattle.uhura_net.specs.Circulation.{edges_of}
+use Rattle.uhura_flow.specs.Flow.{IsFlowEdge}
+use Rattle.uhura_dual.specs.Settled.{key_at}
+use Rattle.uhura_dual.proofs.KeysAt.{key_at-place_number}
+use Rattle.uhura_search.specs.Moving.{HasFlowBounds}
+use Rattle.uhura_net.specs.Place.{HasPlace, place_number, is_loose}
 use Rattle.uhura_flow.specs.Loops.{IsBoundOf}
 use Rattle.uhura_veto.specs.declared.veto.Veto.{Veto}
 use Rattle.uhura_veto.specs.declared.room.Room.{Room}
@@ -30,7 +39,7 @@ use Rattle.uhura_veto.specs.State.{State}
 use Rattle.uhura_veto.proofs.SoundRooms.{least_with-sound}
 use Rattle.uhura_worst.specs.declared.constraint.Constraint.{Constraint}
 use Rattle.uhura_worst.specs.Nodes.{HasNodes}
-use Rattle.uhura_worst.specs.Edges.{between, requirement_constraint, duration_constraint, order_constraint, loose_edge, steep_edge, steep_edge_by, firm_edge, requirement_edge, duration_edge, edge_in, edge_of, item_of}
+use Rattle.uhura_worst.specs.Edges.{between, requirement_constraint, duration_constraint, loose_edge, steep_edge, steep_edge_by, firm_edge, requirement_edge, duration_edge, edge_in, item_of}
 use Rattle.uhura_worst.specs.Filled.{entry_at, IsTableOf}
 use Rattle.uhura_worst.proofs.SoundItems.{requirement_in-placed, uncertain-among, loosening_rate-limited, rate_of-limited}
 
@@ -136,3 +145,26 @@ of_item state key (item.Uncertain d) sound vetoes = by (slice_get state.plan.unc
 -- so a table of a state has bounds of a flow
 pub table-bounded : (state : State) (table : List (Option Edge)) → IsSound state.plan → AreSoundVetoes state.vetoes → IsTableOf state table → (key : EdgeKey) → HasPlace key → IsBounded (entry_at table key)
 table-bounded state table sound vetoes is_table key placed = subst IsBounded (sym (is_table key placed)) (of_item state key (item_of key) sound vetoes)
+
+-- an edge that may stand in a table, with such a bound, may stand in a flow
+fits_flow : (place : ℕ) (edge : Edge) → IsEdgeFor place edge → IsBoundOf edge.bound → IsFlowEdge place edge
+fits_flow place edge fits bound = record {
+  of_net = record { from = fits.from; to = fits.to; apart = fits.apart; least = bound.least; most = bound.most; capacity = by (is_loose place) fits.capacity };
+  capacity = fits.capacity;
+}
+  where
+    by : (b : Bool) → MatchBool b (IsUnitPrice edge.capacity) (edge.capacity ≡ FIRM_CAPACITY) → edge.capacity ≤ FIRM_CAPACITY
+    by true price = omega (arith, price.most)
+    by false firm = omega (arith, firm)
+
+pub edge-fits : (table : List (Option Edge)) (place : ℕ) (key : EdgeKey) → HasPlace key → place_number key ≡ place → HasFlowBounds table → IfSome (edges_of table place) (IsEdgeFor place) →
+    IfSome (edges_of table place) (IsFlowEdge place)
+edge-fits table place key placed stands bounds fits = by (edges_of table place) fits (subst (λ (p : ℕ). IsBounded (edges_of table p)) stands (bounds key placed))
+  where
+    by : (o : Option Edge) → IfSome o (IsEdgeFor place) → IsBounded o → IfSome o (IsFlowEdge place)
+    by None is bound = tt
+    by (Some edge) is bound = fits_flow place edge is bound
+
+-- the key at its place
+pub key-there : (place : ℕ) (key : EdgeKey) → HasPlace key → place_number key ≡ place → key_at place ≡ key
+key-there place key placed stands = ap key_at (sym stands) ∙ key_at-place_number key placed

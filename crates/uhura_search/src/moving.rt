@@ -1,7 +1,7 @@
 //! From branch to branch: a flow gets the edges that are active after some first picks.
 ghost use Rattle.std.specs.Prelude.{◌≡◌, ◌<◌, ℕ, false, IfSome, List, Option, length, replicate};
 ghost use Rattle.uhura_plan.specs.declared.limits.TheConstants.{REQUIREMENTS};
-ghost use Rattle.uhura_flow.specs.Flow.{flow_edges, IsFlow, IsFlowEdge, AreFlowEdges};
+ghost use Rattle.uhura_flow.specs.Flow.{flow_edges, IsFlow, IsFlowEdge};
 ghost use Rattle.uhura_choice.specs.declared.prefix.Pick.{Pick};
 ghost use Rattle.uhura_net.specs.declared.edge.Edge.{Edge};
 ghost use Rattle.uhura_net.specs.declared.place.TheConstants.{PLACES};
@@ -11,8 +11,12 @@ ghost use Rattle.uhura_veto.specs.Vetoes.{AreSoundVetoes};
 ghost use Rattle.uhura_veto.specs.State.{State};
 ghost use Rattle.uhura_worst.specs.Filled.{IsTableOf};
 ghost use Rattle.uhura_dual.specs.Settled.{AreSettled, AreAllSettled};
-ghost use Rattle.uhura_search.specs.Moving.{HasMarks, is_marked_at, is_loose_at, marked_edges, active_edges, AreAmong};
+ghost use Rattle.uhura_search.specs.Moving.{HasMarks, is_marked, is_loose_at, marked_edges, active_edges, AreAmong};
 ghost use Rattle.uhura_search.specs.Moving.{HasFlowBounds, IsTakenOut, HasTakenAt, IsPutIn, IsPutAt, IsMoved};
+ghost use Rattle.uhura_net.specs.Place.{place_number, HasPlace};
+ghost use Rattle.uhura_net.specs.Circulation.{edges_of};
+ghost use Rattle.uhura_worst.specs.Edges.{item_of};
+ghost use Rattle.uhura_dual.specs.Settled.{key_at};
 
 use uhura_choice::{Prefix, holds};
 use uhura_flow::{Flow, Settled};
@@ -30,7 +34,7 @@ pub enum Moved {
 /// Brings a flow to exactly the edges of the table that are active after the picks: first those go that are to go,
 /// then the loose ones come, and then the others. It stops at the first edge that the flow is stuck at.
 pub(crate) fn move_to(flow: &mut Flow, table: &EdgeTable, plan: &Plan, prefix: &Prefix) -> Moved
-    requires { AreFlowEdges table.now }
+    requires { HasFlowBounds table.now }
     ensures { IsMoved flow.old flow.new (active_edges table.now plan.now prefix.now) result }
 {
     let mut active = [false; REQUIREMENTS as usize];
@@ -53,13 +57,13 @@ fn mark_active(active: &mut [bool], plan: &Plan, prefix: &Prefix)
     }
 }
 
-/// Whether the item of the edge at a place is marked. Durations always are.
-fn is_marked(active: &[bool], place: Place) -> bool
+/// Whether the item of an edge is marked. Durations always are.
+fn is_marked(active: &[bool], key: EdgeKey) -> bool
     requires slots { length active.now ≡ REQUIREMENTS }
-    requires place { place.0 < PLACES }
-    ensures { result ≡ is_marked_at active.now place.0 }
+    requires key { HasPlace key }
+    ensures { result ≡ is_marked active.now (item_of key) }
 {
-    let item = match key_of(place) {
+    let item = match key {
         EdgeKey::Loose(side) | EdgeKey::Firm(side) | EdgeKey::Steep(side) => side.item,
         EdgeKey::Order(duration) => Item::Uncertain(duration),
     };
@@ -83,17 +87,35 @@ fn is_loose(place: Place) -> bool
 /// The edge that the flow is to have at a place.
 fn wanted(table: &EdgeTable, active: &[bool], place: Place) -> Option<Edge>
     requires slots { length active.now ≡ REQUIREMENTS }
+    requires bounds { HasFlowBounds table.now }
     requires place { place.0 < PLACES }
     ensures edge { result ≡ marked_edges table.now active.now place.0 }
+    ensures fits { IfSome result (IsFlowEdge place.0) }
     ensures places { length table.now ≡ PLACES }
 {
-    let edge = table.get(place);
-    if is_marked(active, place) { edge } else { None }
+    let key = key_of(place);
+    let edge = table_edge(table, place, key);
+    if is_marked(active, key) { edge } else { None }
+}
+
+/// The edge of a key in the table.
+fn table_edge(table: &EdgeTable, place: Place, key: EdgeKey) -> Option<Edge>
+    requires key { HasPlace key }
+    requires stands { place_number key ≡ place.0 }
+    requires bounds { HasFlowBounds table.now }
+    requires place { place.0 < PLACES }
+    ensures edge { result ≡ edges_of table.now place.0 }
+    ensures key { key_at place.0 ≡ key }
+    ensures fits { IfSome result (IsFlowEdge place.0) }
+    ensures places { length table.now ≡ PLACES }
+{
+    table.get(place)
 }
 
 /// Takes out each edge that isn't the one that the flow is to have there.
 fn take_out(flow: &mut Flow, table: &EdgeTable, active: &[bool])
-    requires { length active.now ≡ REQUIREMENTS }
+    requires slots { length active.now ≡ REQUIREMENTS }
+    requires bounds { HasFlowBounds table.now }
     ensures { IsTakenOut flow.old flow.new (marked_edges table.now active.now) }
 {
     for number in 0..PLACES as u32 {
@@ -117,7 +139,7 @@ fn take_at(flow: &mut Flow, place: Place, edge: Option<Edge>)
 /// Puts in the loose edges that the flow is to have and hasn't, or those that aren't loose.
 fn put_in(flow: &mut Flow, table: &EdgeTable, active: &[bool], loose: bool) -> Moved
     requires slots { length active.now ≡ REQUIREMENTS }
-    requires edges { AreFlowEdges table.now }
+    requires bounds { HasFlowBounds table.now }
     requires among { AreAmong (flow_edges flow.old) (marked_edges table.now active.now) }
     ensures { IsPutIn flow.old flow.new (marked_edges table.now active.now) loose result }
 {
