@@ -2,7 +2,10 @@ pub mod Answering
 pub mod Appending
 pub mod Denials
 pub mod Enough
+pub mod FlowBounds
 pub mod Found
+pub mod Marking
+pub mod Putting
 pub mod Ranks
 pub mod Reasons
 pub mod Shorter

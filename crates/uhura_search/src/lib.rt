@@ -1,6 +1,7 @@
 //! The answer to a question: the branch of a cheapest proposal, with leaves that show it (`specs/Answer.antt`). The
-//! branches are walked in order, and those of a prefix that is shut (`specs/Shut.antt`) are passed at once; then
-//! leaves cover them all (`specs/Appended.antt`). What is learned is kept for later questions (`specs/Searcher.antt`).
+//! branches are walked in order, and those of a prefix that is shut (`specs/Shut.antt`) are passed at once; then leaves
+//! cover them all (`specs/Appended.antt`). What is learned is kept for later questions (`specs/Searcher.antt`).
+//! A flow is moved from branch to branch (`specs/Moving.antt`).
 #![tactic(auto)]
 
 mod closing;
@@ -9,6 +10,7 @@ mod fronts;
 mod incumbent;
 pub mod laws;
 mod leaf;
+pub mod moving;
 mod outcome;
 mod shut;
 
