@@ -1,0 +1,11 @@
+pub mod Behind
+pub mod Covering
+pub mod Going
+pub mod Keyed
+pub mod Leaves
+pub mod Lists
+pub mod Merging
+pub mod Pairs
+pub mod Passing
+pub mod Sides
+pub mod SoundSides
