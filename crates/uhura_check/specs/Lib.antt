@@ -1,0 +1,4 @@
+pub mod Confirmed
+pub mod Conditions
+pub mod Table
+pub mod Examples
