@@ -1,5 +1,5 @@
 -- The lines of a document are such as a line may be: its names are names, and its numbers are within their limits.
-use Rattle.std.proofs.Common.{◌≡◌, ℕ, ◌<◌, ◌≤◌, Bool, true, false, cond, ◌&&◌, ◌==◌, List, [], ◌∷◌, ◌++◌, length, map, flat_map, Option, Some, None, IsSome, IfSome, All, find, get_or, slice_get, refl, sym, ap, subst, ◌∙◌, arith}
+use Rattle.std.proofs.Common.{◌≡◌, ℕ, ◌<◌, ◌≤◌, Bool, true, false, cond, ◌&&◌, ◌==◌, List, [], ◌∷◌, ◌++◌, length, map, flat_map, Option, Some, None, IsSome, IfSome, All, find, get_or, arith}
 use Rattle.std.specs.List.{AllByRecursion, zip}
 use Rattle.std.specs.Option.{option_map_or}
 use Rattle.std.proofs.lemmas.Bool.{and_parts}
@@ -8,7 +8,6 @@ use Rattle.std.proofs.lemmas.Option.{slice_get-get_or}
 use Rattle.std.proofs.lemmas.List.Elements.{All-map, All-head, All-tail, All-weaker, All-cons, All-nil}
 use Rattle.uhura_plan.specs.declared.key.EdgeKey.{EdgeKey}
 use Rattle.uhura_plan.specs.declared.key.EdgeKey.TheVariants as key
-use Rattle.uhura_plan.specs.declared.key.SideKey.{SideKey}
 use Rattle.uhura_plan.specs.declared.key.Item.{Item as Thing}
 use Rattle.uhura_plan.specs.declared.key.Item.TheVariants.{Requirement as InSlot, Uncertain as AtPlace}
 use Rattle.uhura_plan.specs.declared.guard.Literal.{Literal}
@@ -16,19 +15,17 @@ use Rattle.uhura_plan.specs.declared.choice.Choice.{Choice}
 use Rattle.uhura_plan.specs.declared.requirement.Requirement.{Requirement}
 use Rattle.uhura_plan.specs.Name.{is_name}
 use Rattle.uhura_plan.specs.Lists.{Lists, uncertain_names, alternative_names}
-use Rattle.uhura_plan.specs.Sound.{IsName, IsSound, IsSoundChoice, IsSoundUncertain, IsSoundRequirement, IsLiteralAmong}
+use Rattle.uhura_plan.specs.Sound.{IsName, IsSound, IsSoundUncertain, IsSoundRequirement, IsLiteralAmong}
 use Rattle.uhura_choice.specs.declared.prefix.Pick.{Pick}
 use Rattle.uhura_choice.specs.declared.prefix.Pick.TheVariants.{Alternative, Inactive}
 use Rattle.uhura_veto.specs.State.{State}
-use Rattle.uhura_veto.specs.Vetoes.{IsItemOf, HasName, veto_name, veto_names}
-use Rattle.uhura_line.specs.declared.command.Command.{Command}
+use Rattle.uhura_veto.specs.Vetoes.{IsItemOf, veto_name, veto_names}
 use Rattle.uhura_line.specs.Reads.{name_of, are_names}
 use Rattle.uhura_command.specs.Script.{name_at, item_name, literal_names, commands_of}
 use Rattle.uhura_command.specs.State.{IsSoundState}
 use Rattle.uhura_command.proofs.CommandLines.{FitsLine}
 use Rattle.uhura_command.proofs.ScriptReplays.{state_commands_fit}
 use Rattle.uhura_command.proofs.PlanNames.{place_named, guard_named}
-use Rattle.uhura_item.specs.declared.item.Item.{Item}
 use Rattle.uhura_item.specs.declared.item.Item.TheVariants as item
 use Rattle.uhura_item.specs.Item.{IsBetween, IsEdgeName, IsItem}
 use Rattle.uhura_cert.specs.declared.document.Proposal.{Proposal}
@@ -38,8 +35,8 @@ use Rattle.uhura_cert.specs.declared.document.Reason.{Reason}
 use Rattle.uhura_cert.specs.declared.document.Reason.TheVariants as reason
 use Rattle.uhura_cert.specs.declared.document.Leaf.{Leaf}
 use Rattle.uhura_cert.specs.Order.{place_in, IsEdgeOf}
-use Rattle.uhura_cert.proofs.Writing.{at_each}
-use Rattle.uhura_cert.specs.Document.{Document, FitsPlan, AreEdgeUnits, AreEdges, IsShared, AreShared, IsReason, IsPickOf, ArePicks, IsLeaf, HasFittingParts, IsDocument}
+use Rattle.uhura_cert.proofs.Writing.{at_each, length-picked}
+use Rattle.uhura_cert.specs.Document.{Document, FitsPlan, AreEdgeUnits, AreEdges, IsShared, IsReasonOf, IsPickOf, ArePicks, IsLeaf, HasFittingParts}
 use Rattle.uhura_cert.specs.Items.{pick_item, relax_item, time_item, to_cost, to_picks, to_sides, to_times, proposal_items, answer_items, edge_name, units_item, edge_item, shared_items, reason_items, picked_name, picked_names, leaf_items, to_version, to_script, to_question, to_answer, to_shared, to_leaves, items_of}
 
 -- ---- all of a list
@@ -139,11 +136,11 @@ veto_named : (state : State) (veto : ℕ) → IsSoundState state → veto < leng
 veto_named state veto sound there =
     place_named (veto_names state.vetoes) veto (All-map IsName veto_name state.vetoes sound.vetoes.sound.names) (omega (arith, there, length-map state.vetoes veto_name))
 
-reason_fits : (place : ℕ → ℕ) (version : ℕ) (state : State) (entries : ℕ) (r : Reason) → IsSoundState state → IsReason place version state entries r → AllByRecursion IsItem (reason_items state r)
-reason_fits place version state entries (reason.Denied veto) sound fits = (veto_named state veto sound fits, tt)
-reason_fits place version state entries (reason.Flow edges) sound fits = (tt, units_fit place state.plan edges sound.plan fits.1)
-reason_fits place version state entries (reason.Stuck edges) sound fits = (tt, edges_fit state.plan edges sound.plan fits.1)
-reason_fits place version state entries (reason.Entry entry) sound fits = (fits.2, tt)
+reason_fits : (place : ℕ → ℕ) (state : State) (r : Reason) → IsSoundState state → IsReasonOf place state r → AllByRecursion IsItem (reason_items state r)
+reason_fits place state (reason.Denied veto) sound fits = (veto_named state veto sound fits, tt)
+reason_fits place state (reason.Flow edges) sound fits = (tt, units_fit place state.plan edges sound.plan fits)
+reason_fits place state (reason.Stuck edges) sound fits = (tt, edges_fit state.plan edges sound.plan fits)
+reason_fits place state (reason.Entry entry) sound fits = (fits, tt)
 
 -- a choice with names
 abbrev HasNames : Choice → Type 0
@@ -170,7 +167,7 @@ choices_named plan sound = λ k d within. (sound.choices k (get_or plan.choices 
 leaf_fits : (place : ℕ → ℕ) (version : ℕ) (state : State) (entries : ℕ) (leaf : Leaf) → IsSoundState state → IsLeaf place version state entries leaf → AllByRecursion IsItem (leaf_items state leaf)
 leaf_fits place version state entries leaf sound fits = (
   (prefix_named state.plan.choices leaf.prefix (choices_named state.plan sound.plan) fits.prefix, omega (arith, prefix_short state.plan.choices leaf.prefix, sound.plan.counts.choices)),
-  reason_fits place version state entries leaf.reason sound fits.reason,
+  reason_fits place state leaf.reason sound fits.reason,
 )
 
 -- ---- the whole
@@ -209,3 +206,19 @@ proposal_writable plan p sound fits = record {
       (at_each (λ s. IsItemOf plan s.0.item × IsBetween 1 10000000000000 s.1) p.loosening (all_both (λ s. IsItemOf plan s.0.item) (λ s. IsBetween 1 10000000000000 s.1) p.loosening fits.sides.among fits.sides.units));
   times_within = at_each (λ time. time ≤ 10000000000000) p.times fits.times_within;
 }
+
+pub units_writable : (plan : Lists) (edges : List (EdgeKey × ℕ)) → IsSound plan → AreEdgeUnits (place_in plan) plan edges → All (λ e. IsItem (units_item plan e)) edges
+units_writable plan edges sound are =
+    All-weaker (λ e. IsEdgeOf plan e.0 × IsBetween 1 10000000000 e.1) (λ e. IsItem (units_item plan e)) (λ e is. (edge_named plan e.0 sound is.0, is.1)) edges
+    (at_each (λ e. IsEdgeOf plan e.0 × IsBetween 1 10000000000 e.1) edges (all_both (λ e. IsEdgeOf plan e.0) (λ e. IsBetween 1 10000000000 e.1) edges are.among are.units))
+
+pub edges_writable : (plan : Lists) (edges : List EdgeKey) → IsSound plan → AreEdges plan edges → All (λ e. IsItem (edge_item plan e)) edges
+edges_writable plan edges sound are = All-weaker (IsEdgeOf plan) (λ e. IsItem (edge_item plan e)) (λ e is. edge_named plan e sound is) edges (at_each (IsEdgeOf plan) edges are)
+
+-- the picks of a leaf are few, and their line may stand
+pub few_picks : (plan : Lists) (picks : List Pick) → IsSound plan → ArePicks plan.choices picks → length picks ≤ 16
+few_picks plan picks sound are = omega (arith, length-picked plan.choices picks are, prefix_short plan.choices picks, sound.counts.choices)
+
+pub picks_writable : (plan : Lists) (picks : List Pick) → IsSound plan → ArePicks plan.choices picks → IsItem (item.Leaf (picked_names plan.choices picks))
+picks_writable plan picks sound are =
+    (prefix_named plan.choices picks (choices_named plan sound) are, omega (arith, prefix_short plan.choices picks, sound.counts.choices))

@@ -2,7 +2,7 @@
 -- that it doesn't take is the first malformed one, and lines that it takes to an end are the text of one document.
 use Rattle.std.proofs.Common.{◌≡◌, ℕ, ◌+◌, ◌<◌, ◌≤◌, List, [], ◌∷◌, ◌++◌, length, take, drop, get_or, refl, sym, ap, subst, ◌∙◌, arith, append_assoc, append-nil, length-take, length-take-le}
 use Rattle.std.proofs.lemmas.List.{take_more, take-append-drop, take-append-le, take-take, take_all}
-use Rattle.uhura_cert.specs.Run.{Turn, Run}
+use Rattle.uhura_cert.specs.Run.{Run}
 
 -- some document goes on from what was shown
 pub record GoesOn {L D : Type 0} (lines_of : D → List L) (Fits : D → Type 0) (front : List L) : Type 0 where
@@ -121,9 +121,9 @@ module _ {S L D : Type 0} (Step : S → L → S → Type 0) (start : S) (Good : 
           let d = agrees.document in
           let rest : List L = drop (n + 1) (lines_of d) in
           let parts : (take n lines ++ line ∷ []) ++ rest ≡ lines_of d =
-              ap (λ front. front ++ rest) (sym more ∙ sym agrees.same) ∙ take-append-drop (n + 1) (lines_of d) in
+          ap (λ front. front ++ rest) (sym more ∙ sym agrees.same) ∙ take-append-drop (n + 1) (lines_of d) in
           let whole : Run Step start ((take n lines ++ line ∷ []) ++ rest) (done d) =
-              subst (λ ls. Run Step start ls (done d)) (sym parts) (laws.writes d agrees.fits) in
+          subst (λ ls. Run Step start ls (done d)) (sym parts) (laws.writes d agrees.fits) in
           let first = run-split Step start (take n lines ++ line ∷ []) rest (done d) whole in
           let second = run-split Step start (take n lines) (line ∷ []) first.middle first.first in
           let there : second.middle ≡ s = run_once start (take n lines) second.middle s laws.begins second.first run in

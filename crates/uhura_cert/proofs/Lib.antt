@@ -5,3 +5,4 @@ pub mod UnloosenedText
 pub mod Laws
 pub mod ItemsFit
 pub mod Writing
+pub mod ReadBack

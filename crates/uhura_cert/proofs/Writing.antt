@@ -4,8 +4,14 @@ use Rattle.std.specs.List.{AllByRecursion, zip}
 use Rattle.std.proofs.lemmas.List.{take_more, take_all, map-append}
 use Rattle.std.proofs.lemmas.Grind.{flat_map-append}
 use Rattle.std.proofs.lemmas.List.Elements.{All-cons, All-nil}
+use Rattle.uhura_line.specs.declared.command.Command.{Command}
+use Rattle.uhura_line.specs.Form.{words_of}
+use Rattle.uhura_line.specs.Reads.{form_of}
+use Rattle.uhura_line.proofs.Spacing.{line_of-joined}
+use Rattle.uhura_command.specs.Script.{command_line}
 use Rattle.uhura_item.specs.declared.item.Item.{Item}
-use Rattle.uhura_item.specs.Item.{item_line, IsItem}
+use Rattle.uhura_item.specs.declared.item.Item.TheVariants as item
+use Rattle.uhura_item.specs.Item.{item_line}
 use Rattle.uhura_plan.specs.declared.choice.Choice.{Choice}
 use Rattle.uhura_choice.specs.declared.prefix.Pick.{Pick}
 use Rattle.uhura_cert.specs.Document.{IsPickOf, ArePicks}
@@ -19,10 +25,10 @@ line_more f xs i x old text new within is before written =
     let front = take i xs in
     let taken : take (i + 1) xs ≡ front ++ x ∷ [] = take_more xs i x within ∙ ap (λ y. front ++ y ∷ []) (sym is) in
     let whole : flat_map item_line (map f (take (i + 1) xs)) ≡ flat_map item_line (map f front) ++ item_line (f x) =
-        ap (λ ys. flat_map item_line (map f ys)) taken
-        ∙ ap (flat_map item_line) (map-append f front (x ∷ []))
-        ∙ flat_map-append item_line (map f front) (f x ∷ [])
-        ∙ ap (λ line. flat_map item_line (map f front) ++ line) (append-nil (item_line (f x))) in
+    ap (λ ys. flat_map item_line (map f ys)) taken
+    ∙ ap (flat_map item_line) (map-append f front (x ∷ []))
+    ∙ flat_map-append item_line (map f front) (f x ∷ [])
+    ∙ ap (λ line. flat_map item_line (map f front) ++ line) (append-nil (item_line (f x))) in
     written ∙ ap (λ t. t ++ item_line (f x)) before ∙ append_assoc old (flat_map item_line (map f front)) (item_line (f x)) ∙ ap (λ t. old ++ t) (sym whole)
 
 -- several lines more of things that have several lines each
@@ -33,9 +39,9 @@ lines_more f xs i x old text new within is before written =
     let front = take i xs in
     let taken : take (i + 1) xs ≡ front ++ x ∷ [] = take_more xs i x within ∙ ap (λ y. front ++ y ∷ []) (sym is) in
     let whole : flat_map item_line (flat_map f (take (i + 1) xs)) ≡ flat_map item_line (flat_map f front) ++ flat_map item_line (f x) =
-        ap (λ ys. flat_map item_line (flat_map f ys)) taken
-        ∙ ap (flat_map item_line) (flat_map-append f front (x ∷ []) ∙ ap (λ ys. flat_map f front ++ ys) (append-nil (f x)))
-        ∙ flat_map-append item_line (flat_map f front) (f x) in
+    ap (λ ys. flat_map item_line (flat_map f ys)) taken
+    ∙ ap (flat_map item_line) (flat_map-append f front (x ∷ []) ∙ ap (λ ys. flat_map f front ++ ys) (append-nil (f x)))
+    ∙ flat_map-append item_line (flat_map f front) (f x) in
     written ∙ ap (λ t. t ++ flat_map item_line (f x)) before ∙ append_assoc old (flat_map item_line (flat_map f front)) (flat_map item_line (f x)) ∙ ap (λ t. old ++ t) (sym whole)
 
 -- what holds of each by recursion holds at each place
@@ -97,7 +103,6 @@ length-picked choices [] are = refl
 length-picked [] (p ∷ picks) are = absurd are
 length-picked (c ∷ choices) (p ∷ picks) are = omega (arith, length-picked choices picks are.1)
 
-
 -- ---- parts behind one another
 
 -- a line, several lines, and one more behind what is written
@@ -112,3 +117,14 @@ lines_behind old text new items more before written =
 pub line_behind : (old text new : List ℕ) (items : List Item) (i : Item) → text ≡ old ++ flat_map item_line items → new ≡ text ++ item_line i → new ≡ old ++ flat_map item_line (items ++ i ∷ [])
 line_behind old text new items i before written =
     lines_behind old text new items (i ∷ []) before (line_first text new i written)
+
+-- several lines behind the one that begins them
+pub lines_headed : (old text new : List ℕ) (i : Item) (more : List Item) → text ≡ old ++ item_line i → new ≡ text ++ flat_map item_line more → new ≡ old ++ flat_map item_line (i ∷ more)
+lines_headed old text new i more before written = lines_behind old text new (i ∷ []) more (line_first old text i before) written
+
+-- the canonical script is the lines of its commands
+pub script_lines : (cs : List Command) → flat_map command_line cs ≡ flat_map item_line (map (λ c. item.Command c) cs)
+script_lines [] = refl
+script_lines (c ∷ cs) =
+    ap (λ line. line ++ flat_map command_line cs) (line_of-joined (words_of (form_of c)))
+    ∙ ap (λ more. item_line (item.Command c) ++ more) (script_lines cs)

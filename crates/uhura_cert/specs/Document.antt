@@ -1,5 +1,5 @@
 -- A document, and when its parts fit one another, so that it has a text.
-use Rattle.std.specs.Prelude.{◌≡◌, ℕ, ◌+◌, ◌<◌, ◌≤◌, List, [], ◌∷◌, length, Option, Some, IfSome, slice_get}
+use Rattle.std.specs.Prelude.{◌≡◌, ℕ, ◌<◌, ◌≤◌, List, [], ◌∷◌, length, Option, Some, IfSome, slice_get}
 use Rattle.std.specs.List.{AllByRecursion}
 use Rattle.uhura_plan.specs.declared.key.EdgeKey.{EdgeKey}
 use Rattle.uhura_plan.specs.declared.key.SideKey.{SideKey}
@@ -74,15 +74,19 @@ abbrev pub AreShared : (ℕ → ℕ) → ℕ → Lists → List Shared → Type 
 AreShared place version plan entries =
     AllByRecursion (λ entry. (version ≡ 2) × IsShared place plan entry) entries
 
--- a veto that is there; in version 1 what is shown itself, and in version 2 an entry that is there
-abbrev pub IsReason : (ℕ → ℕ) → ℕ → State → ℕ → Reason → Type 0
-IsReason place version state entries (reason.Denied veto) = veto < length state.vetoes
-IsReason place version state entries (reason.Flow edges) =
-    (version ≡ 1) × AreEdgeUnits place state.plan edges
-IsReason place version state entries (reason.Stuck edges) =
-    (version ≡ 1) × AreEdges state.plan edges
-IsReason place version state entries (reason.Entry entry) =
-    (version ≡ 2) × (entry < entries) × (entry ≤ ENTRY)
+-- what a reason names is there
+abbrev pub IsReasonOf : (ℕ → ℕ) → State → Reason → Type 0
+IsReasonOf place state (reason.Denied veto) = veto < length state.vetoes
+IsReasonOf place state (reason.Flow edges) = AreEdgeUnits place state.plan edges
+IsReasonOf place state (reason.Stuck edges) = AreEdges state.plan edges
+IsReasonOf place state (reason.Entry entry) = entry ≤ ENTRY
+
+-- a reason but a denial is shown at its leaf in version 1, and is one of so many entries in version 2
+abbrev pub MayStand : ℕ → ℕ → Reason → Type 0
+MayStand version entries (reason.Denied veto) = Unit {0}
+MayStand version entries (reason.Flow edges) = version ≡ 1
+MayStand version entries (reason.Stuck edges) = version ≡ 1
+MayStand version entries (reason.Entry entry) = (version ≡ 2) × (entry < entries)
 
 -- an alternative of the choice, or nothing
 abbrev pub IsPickOf : Choice → Pick → Type 0
@@ -95,11 +99,17 @@ ArePicks choices [] = Unit {0}
 ArePicks [] (pick ∷ picks) = ⊥
 ArePicks (c ∷ choices) (pick ∷ picks) = IsPickOf c pick × ArePicks choices picks
 
--- a prefix speaks of the choices, and its reason is one that the document may give
+-- a prefix speaks of the choices, and its reason of what is there, as the version has it
 pub record IsLeaf (place : ℕ → ℕ) (version : ℕ) (state : State) (entries : ℕ)
     (leaf : Leaf) : Type 0 where
   pub prefix : ArePicks state.plan.choices leaf.prefix
-  pub reason : IsReason place version state entries leaf.reason
+  pub reason : IsReasonOf place state leaf.reason
+  pub stands : MayStand version entries leaf.reason
+
+-- what a leaf names is there
+pub record CanShow (state : State) (leaf : Leaf) : Type 0 where
+  pub prefix : ArePicks state.plan.choices leaf.prefix
+  pub reason : IsReasonOf (place_in state.plan) state leaf.reason
 
 -- ---- the whole
 

@@ -1,6 +1,6 @@
 //! The parts of a document as lines.
 ghost use Rattle.std.specs.Prelude.{◌≡◌, ◌<◌, length, IfOk};
-ghost use Rattle.uhura_plan.specs.Sound.{IsLiteralAmong};
+ghost use Rattle.uhura_plan.specs.Sound.{IsName, IsLiteralAmong};
 ghost use Rattle.uhura_plan.specs.Lists.{uncertain_names};
 ghost use Rattle.uhura_veto.specs.Vetoes.{IsItemOf, veto_names};
 ghost use Rattle.uhura_command.specs.Script.{name_at, item_name, literal_names};
@@ -65,7 +65,10 @@ pub(crate) fn edge_name(plan: &Plan, edge: EdgeKey) -> EdgeName
 /// The name of a veto.
 pub(crate) fn veto_name(vetoes: &Vetoes, place: u32) -> Name
     requires { place < length vetoes.now }
-    ensures { result ≡ name_at (veto_names vetoes.now) place }
+    ensures at { result ≡ name_at (veto_names vetoes.now) place }
+    ensures named { IsName result }
 {
-    vetoes.veto(place).unwrap().name()
+    let name = vetoes.veto(place).unwrap().name();
+    let _ = name.bytes();
+    name
 }

@@ -30,11 +30,7 @@ fn choice_at(plan: &Plan, place: u32) -> &Choice
 }
 
 /// What is picked of the first choices.
-pub(crate) fn picked_names(
-    alloc: Global,
-    plan: &Plan,
-    picks: &[Pick],
-) -> Result<Picks, AllocError>
+pub(crate) fn picked_names(alloc: Global, plan: &Plan, picks: &[Pick]) -> Result<Picks, AllocError>
     requires picks { ArePicks plan.now.choices picks.now }
     requires few { length picks.now ≤ 16 }
     ensures { IfOk result (λ names. names ≡ picked_names plan.now.choices picks.now) }

@@ -1,18 +1,18 @@
-//! Proposals and documents as text: a line each for the cost, the picks, the sides that are loosened or narrowed, and
-//! the times (`specs/ProposalText.antt`); documents are being built (`specs/Document.antt`, `specs/DocumentText.antt`).
+//! Proposals and documents as text: when the parts of a document fit one another (`specs/Document.antt`), the line that
+//! each part has (`specs/Items.antt`), and how both are written. `specs/Text.antt` says which lines are a document's,
+//! and which line of others is the first that no document has; reading is still to come.
 #![tactic(auto)]
 
 mod document;
 mod items;
 mod leaf;
+mod leaf_lines;
 mod listed;
 mod lists;
 mod proposal;
-mod read;
 mod write;
 
 pub use document::{Document, DocumentRefusal, Leaf, Proposal, Reason, Shared};
 pub use listed::Listed;
 pub use proposal::put_proposal;
-pub use read::read_document;
 pub use write::{write_document, write_proposal};

@@ -1,4 +1,4 @@
-use Rattle.std.proofs.Common.{◌≡◌, ◌<◌, ◌++◌, List, Option, Some, length, take, slice_get, get_or, refl, sym, ap, subst, ◌∙◌, arith, ◌+◌, [], ◌∷◌, ℕ}
+use Rattle.std.proofs.Common.{◌≡◌, ◌<◌, ◌++◌, List, Option, Some, length, take, slice_get, get_or, sym, ap, subst, ◌∙◌, arith, ◌+◌, [], ◌∷◌, ℕ}
 use Rattle.std.proofs.lemmas.Option.{slice_get-get_or, slice_get_within, same_Some}
 use Rattle.std.proofs.lemmas.List.{take_more, take_all}
 use Rattle.uhura_plan.specs.declared.choice.Choice.{Choice}
@@ -22,7 +22,7 @@ name_more choices picks i choice names new are within there before pushed =
     let same : p.choice ≡ choice = same_Some p.choice choice (sym p.at ∙ there) in
     let name = picked_name p.choice (get_or picks i (Alternative 0)) in
     let more : take (i + 1) (picked_names choices picks) ≡ take i (picked_names choices picks) ++ name ∷ [] =
-        take_more (picked_names choices picks) i name p.within ∙ ap (λ n. take i (picked_names choices picks) ++ n ∷ []) (sym p.named) in
+    take_more (picked_names choices picks) i name p.within ∙ ap (λ n. take i (picked_names choices picks) ++ n ∷ []) (sym p.named) in
     pushed ∙ ap (λ ns. ns ++ picked_name choice (get_or picks i (Alternative 0)) ∷ []) before
     ∙ ap (λ c. take i (picked_names choices picks) ++ picked_name c (get_or picks i (Alternative 0)) ∷ []) (sym same) ∙ sym more
 

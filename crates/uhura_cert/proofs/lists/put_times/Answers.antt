@@ -1,4 +1,4 @@
-use Rattle.std.proofs.Common.{◌≡◌, ◌<◌, length, map, flat_map, take, refl, ap, ◌∙◌, arith, ◌++◌, List, ℕ}
+use Rattle.std.proofs.Common.{◌≡◌, ◌<◌, length, map, flat_map, take, refl, ap, ◌∙◌, arith, ◌++◌, ℕ}
 use Rattle.std.specs.List.{zip}
 use Rattle.uhura_item.specs.Item.{item_line}
 use Rattle.uhura_cert.specs.Items.{time_item}
