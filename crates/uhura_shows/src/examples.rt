@@ -3,7 +3,7 @@
 ghost use Rattle.std.specs.Prelude.{◌≡◌, ◌*◌, None, Some, [], ◌∷◌};
 ghost use Rattle.uhura_choice.specs.Branch.{IsEarlier};
 ghost use Rattle.uhura_plan.specs.declared.key.Side.TheVariants.{Lower, Upper};
-ghost use Rattle.uhura_plan.specs.declared.key.EdgeKey.TheVariants.{Loose, Firm, Steep};
+ghost use Rattle.uhura_plan.specs.declared.key.EdgeKey.TheVariants.{Loose, Firm};
 ghost use Rattle.uhura_worst.specs.Allowed.{Allowed};
 ghost use Rattle.uhura_worst.specs.Cost.{cost};
 ghost use Rattle.uhura_worst.specs.Best.{IsCheapest, IsFirst};

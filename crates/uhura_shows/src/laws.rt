@@ -1,8 +1,9 @@
 //! What leaves show of the proposals that are allowed, and how prefixes are known to cover the branches. Each
 //! contract is a law over the definitions, and the bodies are empty.
-ghost use Rattle.std.specs.Prelude.{◌≡◌, ℕ, List, [], ◌∷◌, ◌++◌, Option, Some, None, Contains, ◌↔◌, ◌⊎◌};
+ghost use Rattle.std.specs.Prelude.{ℕ, pos, ◌*ℤ◌, ◌≤ℤ◌, IsTrue, map, List, [], ◌∷◌, ◌++◌, Option, Some, None, Contains, ◌↔◌, ◌⊎◌};
 ghost use Rattle.uhura_plan.specs.Lists.{Lists};
 ghost use Rattle.uhura_plan.specs.Sound.{IsSound};
+ghost use Rattle.uhura_plan.specs.declared.key.EdgeKey.{EdgeKey};
 ghost use Rattle.uhura_plan.specs.declared.choice.Choice.{Choice};
 ghost use Rattle.uhura_choice.specs.declared.prefix.Pick.{Pick};
 ghost use Rattle.uhura_choice.specs.Branch.{IsBranch, IsPrefix, IsEarlier};
@@ -17,7 +18,25 @@ ghost use Rattle.uhura_worst.specs.Best.{IsCheapest, IsFirst};
 ghost use Rattle.uhura_shows.specs.Leaf.{LeafShown};
 ghost use Rattle.uhura_shows.specs.Cover.{IsCover, Covers};
 ghost use Rattle.uhura_shows.specs.Behind.{IsBehind, CoversUpTo, ComesBefore};
-ghost use Rattle.uhura_shows.specs.Shows.{Shows};
+ghost use Rattle.uhura_shows.specs.Carried.{AreSettledKeys, IsKeyedCirculation};
+ghost use Rattle.uhura_shows.specs.Shows.{is_denied_by, IsStuckBy, shown_cost, Shows};
+
+/// Each leaf bounds what is allowed in its own branches, and needs no other leaf for it. At every scale k, k times the
+/// value of units on edges that are settled active in its prefix and the costs picked there is at most the cost; and
+/// nothing is allowed where a walk sums below 0, or where a denial has all its literals picked.
+pub fn leaves_bound_their_own_branches()
+    ensures units { (state : State) (prefix : List Pick) (pairs : List (EdgeKey × ℕ))
+        (k : ℕ) (q : Proposal) → IsSound state.plan → IsKeyedCirculation state pairs →
+        AreSettledKeys state prefix (map (λ pair. pair.0) pairs) →
+        Allowed state k q → IsFrontOf prefix q.branch →
+        (pos k *ℤ shown_cost state prefix pairs) ≤ℤ pos (cost state.plan k q) }
+    ensures walk { (state : State) (prefix : List Pick) (keys : List EdgeKey)
+        (k : ℕ) (q : Proposal) → IsSound state.plan → IsStuckBy state prefix keys →
+        Allowed state k q → IsFrontOf prefix q.branch → ⊥ }
+    ensures denial { (state : State) (prefix : List Pick) (veto k : ℕ) (q : Proposal) →
+        IsTrue (is_denied_by state prefix veto) →
+        Allowed state k q → IsFrontOf prefix q.branch → ⊥ }
+{}
 
 /// Leaves that show the branch and the cost of a proposal that is allowed in whole units show that nothing that is
 /// allowed, whole or in k-ths, costs less, and that nothing that costs the same has an earlier branch.
