@@ -1,10 +1,10 @@
 -- The conditions of a document in their order, each with its line, and what a check says by them.
-use Rattle.std.specs.Prelude.{ℕ, ◌≡◌, ◌+◌, ◌-◌, ◌^◌, min, List, [], ◌∷◌, ◌++◌, length, map, flat_map, take, All}
-use Rattle.std.specs.Prelude.{Option, None, Some, slice_get, Result, Ok, Err}
+use Rattle.std.specs.Prelude.{ℕ, ◌≡◌, ◌+◌, ◌-◌, ◌^◌, min, List, [], ◌∷◌, ◌++◌, length, flat_map, take, All}
+use Rattle.std.specs.Prelude.{⊤, Option, None, Some, slice_get, Result, Ok, Err}
 use Rattle.uhura_choice.specs.declared.prefix.Pick.{Pick}
 use Rattle.uhura_veto.specs.State.{State}
 use Rattle.uhura_item.specs.declared.item.Item.{Item}
-use Rattle.uhura_shows.specs.Leaf.{LeafReason, Denied, Flow, Stuck}
+use Rattle.uhura_shows.specs.Leaf.{LeafReason, Denied, Flow, Stuck, prefixes_of}
 use Rattle.uhura_shows.specs.Shows.{Answer}
 use Rattle.uhura_cert.specs.declared.document.Proposal.{Proposal}
 use Rattle.uhura_cert.specs.declared.document.Reason.{Reason}
@@ -16,7 +16,7 @@ use Rattle.uhura_cert.specs.Items.{shared_items, leaf_items}
 use Rattle.uhura_check.specs.declared.refusal.Code.{Code}
 use Rattle.uhura_check.specs.declared.refusal.CheckRefusal.{CheckRefusal}
 use Rattle.uhura_check.specs.declared.refusal.CheckRefusal.TheVariants.{NotConfirmed, Memory}
-use Rattle.uhura_check.specs.Confirmed.{proposal_of, answer_of, reason_of, Confirmed}
+use Rattle.uhura_check.specs.Confirmed.{proposal_of, answer_of, reason_of, leaves_of, Confirmed}
 use Rattle.uhura_check.specs.Conditions.{Condition, Holds, code_of}
 use Rattle.uhura_check.specs.Conditions as ask
 
@@ -96,7 +96,7 @@ leaves_asks d before line (leaf ∷ leaves) = leaf_asks d before line leaf
 
 -- the prefixes of the leaves
 abbrev pub document_prefixes : Document → List (List Pick)
-document_prefixes d = map (λ leaf. leaf.prefix) d.leaves
+document_prefixes d = prefixes_of (leaves_of d)
 
 -- all that is asked of a document: of its proposal, of leaf by leaf, and at its last line of all of them
 abbrev pub asks_of : Document → List Asked
@@ -118,8 +118,8 @@ pub record FailsFirst (state : State) (answer : Answer) (asks : List Asked) (cod
   pub there : slice_get asks place ≡ Some asked
   pub fails : IsKept state answer asked → ⊥
   pub before : All (IsKept state answer) (take place asks)
-  pub code : code_of asked.condition ≡ code
-  pub line : asked.line ≡ line
+  pub has_code : code_of asked.condition ≡ code
+  pub at_line : asked.line ≡ line
 
 -- no condition of a document fails
 abbrev pub NoneFails : Document → Type 0

@@ -4,10 +4,10 @@
 //! fails.
 #![tactic(auto)]
 
-mod check;
+mod checker;
 pub mod examples;
 pub mod laws;
 mod refusal;
 
-pub use check::check;
+pub use checker::check;
 pub use refusal::{CheckRefusal, Code};
