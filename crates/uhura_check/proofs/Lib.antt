@@ -1,3 +1,5 @@
 pub mod Shown
 pub mod Nexts
 pub mod Turns
+pub mod Asks
+pub mod LeafAsks
