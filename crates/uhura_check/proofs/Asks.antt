@@ -1,5 +1,5 @@
 -- What is asked line by line, and of a reason.
-use Rattle.std.proofs.Common.{ℕ, ◌+◌, ◌≢◌, List, [], ◌∷◌, ◌++◌, map, None, Some}
+use Rattle.std.proofs.Common.{ℕ, ◌+◌, ◌≢◌, List, [], ◌∷◌, None, Some}
 use Rattle.std.specs.Prelude.{All, AllPairs, IsTrue}
 use Rattle.std.proofs.lemmas.List.Elements.{All-nil, All-cons, All-head, All-tail, All-append, All-map, All-weaker}
 use Rattle.uhura_plan.specs.declared.key.EdgeKey.{EdgeKey}

@@ -1,17 +1,13 @@
 -- What is asked of the leaves of a document, one after another.
-use Rattle.std.proofs.Common.{◌≡◌, ◌≢◌, ℕ, zero, suc, ◌+◌, ◌≤◌, List, [], ◌∷◌, ◌++◌, map, length, None, Some, Option, refl, sym, ap, ◌∙◌, subst, arith, get_or}
-use Rattle.std.specs.Prelude.{All, AllPairs, IfSome, slice_get}
-use Rattle.std.specs.Option.{option_map_or}
-use Rattle.std.proofs.lemmas.List.Elements.{All-nil, All-cons, All-head, All-tail, All-append, All-contains}
-use Rattle.std.proofs.lemmas.List.Kept.{AllPairs-cons}
-use Rattle.uhura_plan.specs.declared.key.EdgeKey.{EdgeKey}
+use Rattle.std.proofs.Common.{ℕ, ◌+◌, List, [], ◌∷◌, ◌++◌, map, length, None, Some}
+use Rattle.std.specs.Prelude.{All, IfSome}
+use Rattle.std.proofs.lemmas.List.Elements.{All-nil, All-cons, All-head, All-tail, All-append}
 use Rattle.uhura_plan.specs.Lists.{Lists}
 use Rattle.uhura_choice.specs.declared.prefix.Pick.{Pick}
-use Rattle.uhura_shows.specs.Leaf.{LeafReason, Flow, Stuck, LeafShown, prefixes_of}
+use Rattle.uhura_shows.specs.Leaf.{LeafShown, prefixes_of}
 use Rattle.uhura_shows.specs.Shows.{Answer, IsShownBy, AreNoProperFronts}
 use Rattle.uhura_shows.proofs.Lists.{All-left, All-right}
 use Rattle.uhura_cert.specs.declared.document.Leaf.{Leaf}
-use Rattle.uhura_cert.specs.declared.document.Reason.TheVariants as reason
 use Rattle.uhura_cert.specs.Document.{Document}
 use Rattle.uhura_cert.specs.Items.{leaf_items}
 use Rattle.uhura_check.specs.Confirmed.{leaf_of, reason_of}

@@ -3,3 +3,6 @@ pub mod Nexts
 pub mod Turns
 pub mod Asks
 pub mod LeafAsks
+pub mod Sides
+pub mod Allowances
+pub mod Confirming

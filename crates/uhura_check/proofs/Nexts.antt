@@ -1,5 +1,5 @@
 -- There is a first branch, and behind each prefix a next branch or none.
-use Rattle.std.proofs.Common.{◌≡◌, ℕ, zero, suc, ◌<◌, List, [], ◌∷◌, None, Some, Option, refl, sym, subst, inl, inr, Contains, arith}
+use Rattle.std.proofs.Common.{◌≡◌, zero, suc, ◌<◌, List, [], ◌∷◌, None, Some, Option, refl, sym, subst, inl, inr, Contains, arith}
 use Rattle.std.specs.Prelude.{◌⊎◌, AllPairs}
 use Rattle.std.proofs.lemmas.Bool.{cases_order}
 use Rattle.std.proofs.lemmas.List.Elements.{All-contains}
@@ -75,17 +75,23 @@ first-of prefix (b ∷ bs) order = by (earlier-or_not prefix b) (first-of prefix
     moved next (k, below, is) = (suc k, omega arith, is)
 
     by : IsEarlier prefix b ⊎ (IsEarlier prefix b → ⊥) → (next : Option (List Pick)) × FirstOf prefix bs next → (next : Option (List Pick)) × FirstOf prefix (b ∷ bs) next
-    by (inl behind) rest = (Some b, record {
-      contained = (0, omega arith, refl);
-      behind = behind;
-      first = λ other there after. turned other (contains-first IsEarlier b bs other order there);
-    })
+    by (inl behind) rest = (
+      Some b,
+      record {
+        contained = (0, omega arith, refl);
+        behind = behind;
+        first = λ other there after. turned other (contains-first IsEarlier b bs other order there);
+      },
+    )
     by (inr never) (None, rest) = (None, λ other there behind. none never rest other (contains-cases b bs other there) behind)
-    by (inr never) (Some next, found) = (Some next, record {
-      contained = moved next found.contained;
-      behind = found.behind;
-      first = λ other there after. further never next found other (contains-cases b bs other there) after;
-    })
+    by (inr never) (Some next, found) = (
+      Some next,
+      record {
+        contained = moved next found.contained;
+        behind = found.behind;
+        first = λ other there after. further never next found other (contains-cases b bs other there) after;
+      },
+    )
 
 module _ (plan : Lists) (sound : IsSound plan) where
   walk : (walk : List (List Pick)) × IsWalk plan.choices walk

@@ -1,7 +1,6 @@
 -- What a confirmed document shows.
-use Rattle.std.proofs.Common.{◌≡◌, ℕ, Option, None, Some, refl, sym, subst}
+use Rattle.std.proofs.Common.{◌≡◌, ℕ, Option, None, Some, sym, subst}
 use Rattle.std.specs.Prelude.{IfSome, option_map}
-use Rattle.uhura_choice.specs.declared.prefix.Pick.{Pick}
 use Rattle.uhura_worst.specs.Proposal.{Proposal}
 use Rattle.uhura_worst.specs.Allowed.{Allowed}
 use Rattle.uhura_worst.specs.Cost.{cost}

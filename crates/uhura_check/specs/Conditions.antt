@@ -1,7 +1,7 @@
 -- What is asked of a document: conditions on its proposal, on each of its leaves, and on all leaves together.
-use Rattle.std.specs.Prelude.{ℕ, ◌≡◌, ◌+◌, ◌⊎◌, ℤ, pos, ◌-ℤ◌, ◌≤ℤ◌, IsTrue, IsFalse, List, Option, None, Some, IfSome, slice_get}
+use Rattle.std.specs.Prelude.{ℕ, ◌≡◌, ◌+◌, ◌⊎◌, ℤ, pos, ◌-ℤ◌, ◌≤ℤ◌, IsTrue, IsFalse, List, None, Some, IfSome, slice_get}
 use Rattle.uhura_plan.specs.declared.key.Side.{Side}
-use Rattle.uhura_plan.specs.declared.key.Side.TheVariants.{Lower, Upper}
+use Rattle.uhura_plan.specs.declared.key.Side.TheVariants.{Upper}
 use Rattle.uhura_plan.specs.declared.key.Item.{Item}
 use Rattle.uhura_plan.specs.declared.key.Item.TheVariants as item
 use Rattle.uhura_plan.specs.declared.key.SideKey.{SideKey}

@@ -1,5 +1,5 @@
 -- When a document is confirmed.
-use Rattle.std.specs.Prelude.{ℕ, ◌≡◌, ◌==◌, List, [], map, find, length, Option, Some, IfSome, option_map, slice_get}
+use Rattle.std.specs.Prelude.{ℕ, ◌≡◌, ◌==◌, List, [], map, find, length, IfSome, option_map, slice_get}
 use Rattle.std.specs.List.{range_with_len}
 use Rattle.std.specs.Option.{option_map_or}
 use Rattle.uhura_plan.specs.declared.guard.Literal.{Literal}

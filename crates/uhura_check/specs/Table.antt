@@ -101,9 +101,9 @@ document_prefixes d = prefixes_of (leaves_of d)
 -- all that is asked of a document: of its proposal, of leaf by leaf, and at its last line of all of them
 abbrev pub asks_of : Document → List Asked
 asks_of d = answer_asks d d.answer
-    ++ leaves_asks d [] (line_behind (to_shared d)) d.leaves
+    ++ (leaves_asks d [] (line_behind (to_shared d)) d.leaves
     ++ (record { condition = ask.All (document_prefixes d); line = line_behind (to_leaves d) })
-    ∷ []
+    ∷ [])
 
 -- ---- what fails first
 

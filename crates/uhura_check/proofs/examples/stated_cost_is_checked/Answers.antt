@@ -1,4 +1,4 @@
-use Rattle.std.proofs.Common.{rules, ◌≡◌, ℕ, [], refl, arith}
+use Rattle.std.proofs.Common.{rules, ◌≡◌, [], refl, arith}
 use Rattle.std.proofs.lemmas.List.Elements.{All-nil, All-cons}
 use Rattle.uhura_worst.specs.Examples.{two_sides}
 use Rattle.uhura_shows.specs.Examples.{left}

@@ -2,8 +2,8 @@ use Rattle.std.proofs.Common.{rules, refl}
 use Rattle.uhura_worst.specs.Allowed.{Allowed}
 use Rattle.uhura_worst.specs.Examples.{two_sides}
 use Rattle.uhura_shows.proofs.Sides.{sides-shown}
-use Rattle.uhura_check.specs.Confirmed.{proposal_of, IsGood}
-use Rattle.uhura_check.specs.Examples.{left_for, document_with, shared_with}
+use Rattle.uhura_check.specs.Confirmed.{proposal_of}
+use Rattle.uhura_check.specs.Examples.{left_for}
 use Rattle.uhura_check.proofs.examples.two_leaves_are_confirmed.Goals as goal
 
 left-allowed : Allowed two_sides 1 (proposal_of two_sides.plan (left_for 5))
