@@ -57,16 +57,16 @@ leaves-once d (leaf ∷ leaves) are fit = All-cons (HasOnceIn d) leaf leaves (re
 -- ---- the proposal
 
 module _ (d : Document) (answer : Answer) (p : Stated) where
-  pub picks-asked : Asked
+  unfoldable pub picks-asked : Asked
   picks-asked = record { condition = ask.Picks (proposal_of d.state.plan p); line = line_behind (to_question d) }
 
-  pub sides-asked : List Asked
+  unfoldable pub sides-asked : List Asked
   sides-asked = each_line (ask.Loosens (proposal_of d.state.plan p)) (line_behind (to_question d ++ to_picks d.state.plan p)) p.loosening
 
-  pub cost-asked : Asked
+  unfoldable pub cost-asked : Asked
   cost-asked = record { condition = ask.Cost (proposal_of d.state.plan p) p.cost; line = line_behind (to_question d) }
 
-  pub met-asked : List Asked
+  unfoldable pub met-asked : List Asked
   met-asked = each_line (ask.Meets (proposal_of d.state.plan p)) (requirements_line d) d.state.plan.requirements
 
   pub asked-good : IsSound d.state.plan → All (IsKept d.state answer) (proposal_asks d p) → IsGood d p
@@ -101,10 +101,10 @@ module _ (d : Document) (answer : Answer) (p : Stated) where
 -- ---- the whole
 
 module _ (d : Document) where
-  pub last-asked : Asked
+  unfoldable pub last-asked : Asked
   last-asked = record { condition = ask.All (document_prefixes d); line = line_behind (to_leaves d) }
 
-  pub leaves-all : List Asked
+  unfoldable pub leaves-all : List Asked
   leaves-all = leaves_asks d [] (line_behind (to_shared d)) d.leaves
 
   good-of : IsSound d.state.plan → (answer : Option Stated) → All (IsKept d.state (answer_of d)) (answer_asks d answer) → IfSome answer (IsGood d)

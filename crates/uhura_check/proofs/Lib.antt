@@ -6,3 +6,7 @@ pub mod LeafAsks
 pub mod Sides
 pub mod Allowances
 pub mod Confirming
+pub mod Branches
+pub mod Lengths
+pub mod Failing
+pub mod PickFailure

@@ -2,3 +2,4 @@ pub mod Confirmed
 pub mod Conditions
 pub mod Table
 pub mod Examples
+pub mod Picks

@@ -4,10 +4,16 @@
 //! fails.
 #![tactic(auto)]
 
+mod active;
 mod checker;
 pub mod examples;
 pub mod laws;
+mod lines;
+mod picks;
 mod refusal;
 
+pub use active::{is_active_edge, is_active_item};
 pub use checker::check;
+pub use lines::proposal_line;
+pub use picks::picked_branch;
 pub use refusal::{CheckRefusal, Code};
