@@ -44,7 +44,7 @@ narrow-width : (rate : Option Rate) (width : ℕ) (caps : List ℕ) (units : ℕ
 narrow-width None width caps units within = let most : units ≤ 1 * 0 = within in omega (arith, most)
 narrow-width (Some rate) width caps units within = let most : units ≤ 1 * fold min width caps = within in omega (arith, most, fold-min_le width caps)
 
-abs-itself : (z : ℤ) → pos 0 ≤ℤ z → pos (nat_abs z) ≡ z
+pub abs-itself : (z : ℤ) → pos 0 ≤ℤ z → pos (nat_abs z) ≡ z
 abs-itself (pos n) some = refl
 abs-itself (negsuc n) some = absurd (omega (arith, ints, some))
 

@@ -10,3 +10,4 @@ pub mod Branches
 pub mod Lengths
 pub mod Failing
 pub mod PickFailure
+pub mod Rooms

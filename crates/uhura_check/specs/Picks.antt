@@ -1,10 +1,12 @@
 -- What literals pick.
-use Rattle.std.specs.Prelude.{◌≡◌, List, [], ◌∷◌, ◌++◌, length}
+use Rattle.std.specs.Prelude.{ℕ, ◌≡◌, ◌+◌, ◌≤◌, List, [], ◌∷◌, ◌++◌, length}
 use Rattle.uhura_plan.specs.declared.guard.Literal.{Literal}
 use Rattle.uhura_plan.specs.declared.choice.Choice.{Choice}
+use Rattle.uhura_plan.specs.declared.uncertain.Uncertain.{Uncertain}
 use Rattle.uhura_choice.specs.declared.prefix.Pick.{Pick}
 use Rattle.uhura_choice.specs.Branch.{IsBranch, IsPrefix}
 use Rattle.uhura_veto.specs.State.{State}
+use Rattle.uhura_veto.specs.Room.{width_of}
 use Rattle.uhura_check.specs.Confirmed.{picks_of}
 use Rattle.uhura_check.specs.Conditions.{IsPicked}
 
@@ -25,3 +27,7 @@ pub record IsPickedBy (state : State) (literals : List Literal) (branch : List P
     : Type 0 where
   pub picks_are : branch ≡ picks_of literals (length state.plan.choices)
   pub picked : IsPicked state branch
+
+-- the range of a duration isn't empty when it is narrowed by so many units from below and from above
+abbrev pub IsNarrowed : Uncertain → ℕ → ℕ → Type 0
+IsNarrowed u lower upper = lower + upper ≤ width_of u

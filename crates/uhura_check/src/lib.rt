@@ -11,9 +11,11 @@ pub mod laws;
 mod lines;
 mod picks;
 mod refusal;
+mod room;
 
 pub use active::{is_active_edge, is_active_item};
 pub use checker::check;
 pub use lines::proposal_line;
 pub use picks::picked_branch;
+pub use room::has_room;
 pub use refusal::{CheckRefusal, Code};
