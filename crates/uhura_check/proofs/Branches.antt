@@ -1,5 +1,5 @@
 -- A branch is built pick by pick.
-use Rattle.std.proofs.Common.{◌≡◌, ℕ, ◌+◌, ◌<◌, ◌≤◌, List, [], ◌∷◌, ◌++◌, length, take, None, Some, Option, refl, sym, ap, ◌∙◌, subst, arith}
+use Rattle.std.proofs.Common.{◌≡◌, ℕ, ◌+◌, ◌<◌, List, [], ◌∷◌, ◌++◌, length, take, None, Some, sym, ap, ◌∙◌, subst, arith}
 use Rattle.std.specs.Prelude.{slice_get}
 use Rattle.std.proofs.lemmas.List.{length_push}
 use Rattle.std.proofs.lemmas.List.FromFn.{length-map-range_with_len, take-map-range_with_len, map-range_with_len_more}
@@ -10,7 +10,7 @@ use Rattle.uhura_choice.specs.declared.prefix.Pick.{Pick}
 use Rattle.uhura_choice.specs.declared.prefix.Pick.TheVariants.{Alternative, Inactive}
 use Rattle.uhura_choice.specs.Branch.{IsBranch, IsPrefix, IsEntry}
 use Rattle.uhura_choice.specs.Children.{children}
-use Rattle.uhura_choice.proofs.Prefixes.{HaveAlternatives, choice-there, prefix-whole, prefix-push, prefix-entry, branch-prefix, prefix-take, prefix-few, starts-prefix}
+use Rattle.uhura_choice.proofs.Prefixes.{HaveAlternatives, choice-there, prefix-whole, prefix-push, branch-prefix, prefix-take, prefix-few, starts-prefix}
 use Rattle.uhura_choice.proofs.Extensions.{children-active, children-inactive, slice_get-with_alternatives}
 use Rattle.uhura_shows.specs.Behind.{child_index}
 use Rattle.uhura_check.specs.Confirmed.{pick_of, picks_of}

@@ -1,5 +1,5 @@
 -- How many lines the script has.
-use Rattle.std.proofs.Common.{◌≡◌, ℕ, ◌+◌, List, [], ◌∷◌, ◌++◌, map, length, ap, ◌∙◌, arith}
+use Rattle.std.proofs.Common.{◌≡◌, ◌+◌, List, [], ◌∷◌, ◌++◌, map, length, arith}
 use Rattle.std.proofs.lemmas.List.{length-append, length-map}
 use Rattle.uhura_plan.specs.Lists.{Lists}
 use Rattle.uhura_veto.specs.State.{State}

@@ -1,6 +1,6 @@
 -- A document whose picks aren't those of a branch that isn't denied fails there first.
-use Rattle.std.proofs.Common.{◌≡◌, ℕ, ◌+◌, ◌-◌, ◌<◌, List, [], ◌∷◌, ◌++◌, length, Some, Option, refl, sym, ap, ◌∙◌, subst, arith}
-use Rattle.std.specs.Prelude.{◌^◌, min, Err}
+use Rattle.std.proofs.Common.{◌≡◌, ℕ, ◌+◌, ◌<◌, [], ◌∷◌, ◌++◌, length, Some, Option, sym, subst, arith}
+use Rattle.std.specs.Prelude.{◌^◌, Err}
 use Rattle.uhura_command.specs.Script.{commands_of}
 use Rattle.uhura_cert.specs.declared.document.Proposal.{Proposal as Stated}
 use Rattle.uhura_cert.specs.Document.{Document}
@@ -9,7 +9,7 @@ use Rattle.uhura_check.specs.declared.refusal.Code.TheVariants as code
 use Rattle.uhura_check.specs.declared.refusal.CheckRefusal.TheVariants.{NotConfirmed}
 use Rattle.uhura_check.specs.Confirmed.{answer_of, picks_of}
 use Rattle.uhura_check.specs.Conditions.{IsPicked}
-use Rattle.uhura_check.specs.Table.{Asked, line_behind, proposal_asks, answer_asks, asks_of, FailsFirst, IsFirstFailure, Checks}
+use Rattle.uhura_check.specs.Table.{line_behind, proposal_asks, answer_asks, FailsFirst, IsFirstFailure, Checks}
 use Rattle.uhura_check.proofs.Lengths.{question-line}
 use Rattle.uhura_check.proofs.Failing.{fails-left, fails-head}
 use Rattle.uhura_check.proofs.Confirming.{picks-asked, sides-asked, cost-asked, met-asked, leaves-all, last-asked}

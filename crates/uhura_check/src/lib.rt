@@ -12,10 +12,12 @@ mod lines;
 mod picks;
 mod refusal;
 mod room;
+mod units;
 
 pub use active::{is_active_edge, is_active_item};
 pub use checker::check;
 pub use lines::proposal_line;
 pub use picks::picked_branch;
-pub use room::has_room;
 pub use refusal::{CheckRefusal, Code};
+pub use room::has_room;
+pub use units::may_carry;

@@ -1,4 +1,4 @@
-use Rattle.std.proofs.Common.{◌≡◌, List, subst, length, arith}
+use Rattle.std.proofs.Common.{List, subst, length, arith}
 use Rattle.std.specs.Prelude.{Err}
 use Rattle.uhura_plan.specs.declared.guard.Literal.{Literal}
 use Rattle.uhura_cert.specs.Document.{Document}

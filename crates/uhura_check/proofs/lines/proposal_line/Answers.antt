@@ -1,4 +1,4 @@
-use Rattle.std.proofs.Common.{◌≡◌, ◌+◌, ap, ◌∙◌, length, arith}
+use Rattle.std.proofs.Common.{ap, length, arith}
 use Rattle.uhura_veto.specs.State.{State}
 use Rattle.uhura_command.specs.Script.{commands_of}
 use Rattle.uhura_check.proofs.Lengths.{state-length}

@@ -1,7 +1,6 @@
-use Rattle.std.proofs.Common.{◌≡◌, ◌++◌, ◌∷◌, [], ap, sym, ◌∙◌, subst, length, Some, None, true≢false}
+use Rattle.std.proofs.Common.{◌≡◌, ◌++◌, ◌∷◌, [], ap, sym, ◌∙◌, subst, length, Some, true≢false}
 use Rattle.std.specs.Prelude.{slice_get}
 use Rattle.std.proofs.lemmas.Option.{slice_get_within}
-use Rattle.uhura_choice.specs.Branch.{IsEntry}
 use Rattle.uhura_choice.specs.Children.{children}
 use Rattle.uhura_choice.proofs.Prefixes.{sound-have_alternatives, prefix-entry}
 use Rattle.uhura_check.proofs.Branches.{child-by, longer-by, none-behind}

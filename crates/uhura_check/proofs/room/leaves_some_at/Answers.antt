@@ -1,4 +1,4 @@
-use Rattle.std.proofs.Common.{◌≡◌, ap, sym, ◌∙◌}
+use Rattle.std.proofs.Common.{ap, sym, ◌∙◌}
 use Rattle.uhura_worst.specs.Units.{side_units}
 use Rattle.uhura_check.proofs.Rooms.{leaves-decided}
 use Rattle.uhura_check.proofs.room.leaves_some_at.Goals as goal
