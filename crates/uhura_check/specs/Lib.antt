@@ -3,3 +3,4 @@ pub mod Conditions
 pub mod Table
 pub mod Examples
 pub mod Picks
+pub mod Firsts

@@ -6,6 +6,7 @@
 
 mod active;
 mod checker;
+mod denied;
 pub mod examples;
 pub mod laws;
 mod lines;
@@ -16,8 +17,9 @@ mod units;
 
 pub use active::{is_active_edge, is_active_item};
 pub use checker::check;
+pub use denied::is_denied_by;
 pub use lines::proposal_line;
 pub use picks::picked_branch;
 pub use refusal::{CheckRefusal, Code};
 pub use room::has_room;
-pub use units::may_carry;
+pub use units::{first_not_carried, may_carry};
