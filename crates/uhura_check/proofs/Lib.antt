@@ -11,3 +11,4 @@ pub mod Lengths
 pub mod Failing
 pub mod PickFailure
 pub mod Rooms
+pub mod Firsts

@@ -21,5 +21,5 @@ pub use denied::is_denied_by;
 pub use lines::proposal_line;
 pub use picks::picked_branch;
 pub use refusal::{CheckRefusal, Code};
-pub use room::has_room;
+pub use room::{first_without_room, has_room};
 pub use units::{first_not_carried, may_carry};

@@ -1,11 +1,12 @@
 //! Whether the sides of a proposal have room.
-ghost use Rattle.std.specs.Prelude.{◌≡◌, ◌≤◌, ℕ, ℤ, List};
+ghost use Rattle.std.specs.Prelude.{◌≡◌, ◌≤◌, ℕ, ℤ, List, All, MatchOption};
 ghost use Rattle.std.specs.Bool.{Decides};
 ghost use Rattle.uhura_choice.specs.declared.prefix.Pick.{Pick};
 ghost use Rattle.uhura_veto.specs.Room.{IsWithinRoom, width_of};
 ghost use Rattle.uhura_relax.specs.Schedule.{proposal_with};
 ghost use Rattle.uhura_worst.specs.Examples.{duration_side};
 ghost use Rattle.uhura_check.specs.Conditions.{LeavesSomeAt, HasRoom};
+ghost use Rattle.uhura_check.specs.Firsts.{IsFirstNot};
 ghost use Rattle.uhura_check.specs.Picks.{IsNarrowed};
 
 use crate::active::is_active_item;
@@ -25,6 +26,22 @@ pub fn has_room(state: &State, branch: &Branch, loosening: &Loosening, side: (Si
     is_active_item(&state.plan, branch, side.0.item)
         && is_within(room(&state.plan, &state.vetoes, side.0), side.1)
         && leaves_some_at(&state.plan, loosening, side.0)
+}
+
+/// The place of the first side that has no room, where there is one.
+pub fn first_without_room(state: &State, branch: &Branch, loosening: &Loosening) -> Option<usize>
+    ensures { (times : ℕ → ℤ) → MatchOption result
+        (All (HasRoom state.now (proposal_with branch.now loosening.now times)) loosening.now)
+        (IsFirstNot (HasRoom state.now (proposal_with branch.now loosening.now times))
+        loosening.now) }
+{
+    let pairs = loosening.pairs();
+    for place in 0..pairs.len() {
+        if !has_room(state, branch, loosening, pairs[place]) {
+            return Some(place);
+        }
+    }
+    None
 }
 
 /// Whether the units lie within the room.
