@@ -12,3 +12,4 @@ pub mod Failing
 pub mod PickFailure
 pub mod Rooms
 pub mod Firsts
+pub mod RoomFailure

@@ -18,7 +18,7 @@ mod units;
 pub use active::{is_active_edge, is_active_item};
 pub use checker::check;
 pub use denied::is_denied_by;
-pub use lines::proposal_line;
+pub use lines::{line_after, proposal_line, side_line};
 pub use picks::picked_branch;
 pub use refusal::{CheckRefusal, Code};
 pub use room::{first_without_room, has_room};

@@ -1,4 +1,4 @@
-use Rattle.std.proofs.Common.{rules, ◌≡◌, true, false, All, subst, ap, ◌∙◌, take, arith}
+use Rattle.std.proofs.Common.{rules, ◌≡◌, true, false, All, subst, ◌∙◌, arith}
 use Rattle.std.proofs.lemmas.List.{take_all}
 use Rattle.std.proofs.lemmas.List.Elements.{All-more}
 use Rattle.uhura_relax.specs.Schedule.{proposal_with}

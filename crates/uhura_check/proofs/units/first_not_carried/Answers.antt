@@ -1,4 +1,4 @@
-use Rattle.std.proofs.Common.{rules, ◌≡◌, true, All, subst, take, arith}
+use Rattle.std.proofs.Common.{rules, ◌≡◌, true, All, subst, arith}
 use Rattle.std.proofs.lemmas.List.{take_all}
 use Rattle.std.proofs.lemmas.List.Elements.{All-more}
 use Rattle.uhura_check.specs.Conditions.{MayCarry}
