@@ -1,0 +1,15 @@
+pub mod Shown
+pub mod Nexts
+pub mod Turns
+pub mod Asks
+pub mod LeafAsks
+pub mod Sides
+pub mod Allowances
+pub mod Confirming
+pub mod Branches
+pub mod Lengths
+pub mod Failing
+pub mod PickFailure
+pub mod Rooms
+pub mod Firsts
+pub mod RoomFailure

@@ -1,0 +1,6 @@
+pub mod Confirmed
+pub mod Conditions
+pub mod Table
+pub mod Examples
+pub mod Picks
+pub mod Firsts

@@ -1,0 +1,37 @@
+//! What is active after some picks.
+ghost use Rattle.std.specs.Prelude.{◌≡◌};
+ghost use Rattle.uhura_worst.specs.Edges.{is_active_item, is_active_edge, item_of};
+
+use uhura_choice::{Prefix, holds};
+use uhura_plan::{EdgeKey, Item, Plan};
+
+/// Whether the table of an item is active: that of a duration everywhere, and that of a requirement where its guard
+/// holds.
+pub fn is_active_item(plan: &Plan, prefix: &Prefix, item: Item) -> bool
+    ensures { result ≡ is_active_item plan.now prefix.now item }
+{
+    match item {
+        Item::Requirement(slot) => match plan.requirement_in(slot) {
+            Some(requirement) => holds(&requirement.guard, prefix),
+            None => false,
+        },
+        Item::Uncertain(_) => true,
+    }
+}
+
+/// Whether the table of an edge's item is active.
+pub fn is_active_edge(plan: &Plan, prefix: &Prefix, key: EdgeKey) -> bool
+    ensures { result ≡ is_active_edge plan.now prefix.now key }
+{
+    is_active_item(plan, prefix, item_of(key))
+}
+
+/// The item whose table has the edge.
+fn item_of(key: EdgeKey) -> Item
+    ensures { result ≡ item_of key }
+{
+    match key {
+        EdgeKey::Loose(key) | EdgeKey::Firm(key) | EdgeKey::Steep(key) => key.item,
+        EdgeKey::Order(duration) => Item::Uncertain(duration),
+    }
+}

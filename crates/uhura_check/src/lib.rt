@@ -1,0 +1,25 @@
+//! The checker of documents: which conditions a document is to meet, in which order, at which lines
+//! (`specs/Conditions.antt`, `specs/Table.antt`), and when it is confirmed (`specs/Confirmed.antt`), tried on a worked
+//! document in `examples`. `laws` says what a confirmed document shows, and that it is one exactly where no condition
+//! fails.
+#![tactic(auto)]
+
+mod active;
+mod checker;
+mod denied;
+pub mod examples;
+pub mod laws;
+mod lines;
+mod picks;
+mod refusal;
+mod room;
+mod units;
+
+pub use active::{is_active_edge, is_active_item};
+pub use checker::check;
+pub use denied::is_denied_by;
+pub use lines::{line_after, proposal_line, side_line};
+pub use picks::picked_branch;
+pub use refusal::{CheckRefusal, Code};
+pub use room::{first_without_room, has_room};
+pub use units::{first_not_carried, may_carry};
