@@ -5,7 +5,6 @@
 #![tactic(auto)]
 
 mod active;
-mod checker;
 mod denied;
 pub mod examples;
 pub mod laws;
@@ -16,7 +15,6 @@ mod room;
 mod units;
 
 pub use active::{is_active_edge, is_active_item};
-pub use checker::check;
 pub use denied::is_denied_by;
 pub use lines::{line_after, proposal_line, side_line};
 pub use picks::picked_branch;
