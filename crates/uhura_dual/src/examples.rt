@@ -61,7 +61,8 @@ pub fn places_have_their_edges()
 pub fn fractions_cost_as_much()
     ensures circulation { IsCirculation PLACES (settled_edges even_drive []) (around_drive 3) }
     ensures too_many { IsCirculation PLACES (settled_edges even_drive []) (around_drive 4) → ⊥ }
-    ensures worth { worth_with even_drive.plan [] (settled_edges even_drive []) (around_drive 3) ≡ pos 30 }
+    ensures worth { worth_with even_drive.plan [] (settled_edges even_drive []) (around_drive 3)
+        ≡ pos 30 }
     ensures bound { (k : ℕ) (q : Proposal) → IsSound even_drive.plan → Allowed even_drive k q →
         k * 30 ≤ cost even_drive.plan k q }
     ensures whole { cost even_drive.plan 1 (later_and_cut 10 0) ≡ 30 }
