@@ -1,5 +1,5 @@
 -- What a read and a write leave, in the counts that a source and a sink keep.
-use Rattle.std.specs.Prelude.{◌≡◌, ℕ, ◌+◌, ◌-◌, ◌^◌, ◌<◌, ◌≤◌, ◌⊎◌, min, List, length, take, Option, Result, MatchResult, OnErr}
+use Rattle.std.specs.Prelude.{◌≡◌, ℕ, ◌+◌, ◌-◌, ◌^◌, ◌<◌, ◌⊎◌, min, List, length, take, Option, Result, MatchResult}
 use Rattle.std.specs.Io.KnownBytes.{Appends}
 
 -- the last value of a 64-bit count: a count that stands there can't rise
@@ -14,14 +14,13 @@ HasRisen old new = (old < new) ⊎ ((old ≡ last_count) × (new ≡ last_count)
 abbrev pub Counts : {E : Type 0} → ℕ → ℕ → Result ℕ E → Type 0
 Counts old new r = MatchResult r (λ n. new ≡ min (old + n) last_count) (λ _. new ≡ old)
 
--- the faults never fall, and an error comes only where they rose
-pub record HasCause {A E : Type 0} (old new : ℕ) (r : Result A E) : Type 0 where
-  pub kept : old ≤ new
-  pub cause : OnErr r (HasRisen old new)
+-- an error comes exactly where the faults rose, and else they stay
+abbrev pub HasCause : {A E : Type 0} → ℕ → ℕ → Result A E → Type 0
+HasCause old new r = MatchResult r (λ _. new ≡ old) (λ _. HasRisen old new)
 
--- known bytes grow by a front of bs
+-- known bytes grow by a front of bs, which isn't all of it
 abbrev pub AppendsFront : Option (List ℕ) → Option (List ℕ) → List ℕ → Type 0
-AppendsFront old new bs = (n : ℕ) × (n ≤ length bs) × Appends old new (take n bs)
+AppendsFront old new bs = (n : ℕ) × (n < length bs) × Appends old new (take n bs)
 
 -- a count that rises by n, up to its last value
 abbrev pub count_up : ℕ → ℕ → ℕ

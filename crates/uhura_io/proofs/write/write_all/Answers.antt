@@ -1,5 +1,5 @@
 -- What was written before, and then the piece that the sink took, is a longer front of the text.
-use Rattle.std.proofs.Common.{ℕ, List, length, take, drop, ◌-◌, ◌+◌, arith}
+use Rattle.std.proofs.Common.{ℕ, List, length, take, drop, ◌-◌, ◌+◌, ◌∙◌, arith}
 use Rattle.std.specs.Prelude.{Option}
 use Rattle.std.specs.Io.KnownBytes.{Appends}
 use Rattle.std.proofs.KnownBytes.{Appends-trans}
@@ -15,5 +15,5 @@ pub loop-at-preserved : goal.loop-at-preserved
 loop-at-preserved g c = record {
   in_bounds = omega (arith, c.in-Ok.ensures.bound);
   written = Appends-next_piece _ _ _ _ _ _ c.loop-at.invariant.written c.in-Ok.ensures.bytes;
-  kept = omega (arith, c.in-Ok.ensures.cause.kept);
+  faults = c.in-Ok.ensures.cause ∙ c.loop-at.invariant.faults;
 }
