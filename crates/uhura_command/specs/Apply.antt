@@ -37,6 +37,16 @@ is_veto (command.Cap name item side units) = true
 is_veto (command.Withdraw name) = true
 is_veto c = false
 
+-- the command adds something to the state, for which it takes memory
+abbrev pub takes_memory : Command → Bool
+takes_memory (command.Event name) = true
+takes_memory (command.Uncertain name start end lower upper lower_rate upper_rate) = true
+takes_memory (command.Choice name alternatives guard) = true
+takes_memory (command.Require name from to lower upper guard) = true
+takes_memory (command.Deny name literals) = true
+takes_memory (command.Cap name item side units) = true
+takes_memory c = false
+
 -- a state's refusal for the refusal of an edit of its plan or of its vetoes
 abbrev pub of_edit : EditRefusal → StateRefusal
 of_edit edit.Taken = Taken
@@ -148,6 +158,12 @@ abbrev pub AnswersFirst : Option StateRefusal → Result ⊤ StateRefusal → Ty
 AnswersFirst (Some refusal) result = result ≡ Err refusal
 AnswersFirst None (Ok done) = ⊤
 AnswersFirst None (Err refusal) = refusal ≡ Memory alloc_error
+
+-- a command that takes no memory succeeds where it has no refusal
+abbrev pub SucceedsAlways : Bool → Option StateRefusal → Result ⊤ StateRefusal → Type 0
+SucceedsAlways true refusal result = ⊤
+SucceedsAlways false (Some refusal) result = ⊤
+SucceedsAlways false None result = result ≡ Ok tt
 
 -- the answer to an edit of the plan, as the state's
 abbrev pub IsPassedOn : Result ⊤ EditRefusal → Result ⊤ StateRefusal → Type 0

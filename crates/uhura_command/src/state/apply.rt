@@ -1,11 +1,11 @@
 //! What a command makes of a state.
-ghost use Rattle.std.specs.Prelude.{◌≡◌, IsTrue, IsFalse, Option, option_map, OnOk, OnErr};
+ghost use Rattle.std.specs.Prelude.{◌≡◌, false, IsTrue, IsFalse, Option, option_map, OnOk, OnErr};
 ghost use Rattle.uhura_plan.specs.Find.{requirement_of};
 ghost use Rattle.uhura_plan.specs.Changes.{without_requirement};
 ghost use Rattle.uhura_veto.specs.Vetoes.{AreVetoesOf};
 ghost use Rattle.uhura_line.specs.Reads.{IsCommand, name_of};
 ghost use Rattle.uhura_command.specs.Apply.{IsEdit, is_veto, kind_named, Edits, EditsVetoes, Applies};
-ghost use Rattle.uhura_command.specs.Apply.{AnswersFirst, IsPassedOn, drop_refusal, refusal_of};
+ghost use Rattle.uhura_command.specs.Apply.{AnswersFirst, SucceedsAlways, IsPassedOn, drop_refusal, refusal_of, takes_memory};
 
 use super::{State, StateRefusal};
 use uhura_line::{Command, ItemName};
@@ -13,11 +13,14 @@ use uhura_plan::{EditRefusal, Name, Plan};
 use uhura_veto::{ItemKind, Vetoes};
 
 impl State {
-    /// Makes of the state what the command says, or refuses it and leaves the state as it was.
+    /// Makes of the state what the command says, or refuses it and leaves the state as it was. Only a command that
+    /// adds something takes memory.
     pub fn apply(&mut self, command: &Command) -> Result<(), StateRefusal>
         requires edit { IsEdit command.now }
         requires command { IsCommand command.now }
         ensures answer { AnswersFirst (refusal_of self.old command.now) result }
+        ensures always { SucceedsAlways (takes_memory command.now)
+            (refusal_of self.old command.now) result }
         ensures ok { OnOk result (Applies self.old command.now self.new) }
         ensures err { OnErr result (self.new ≡ self.old) }
     {
@@ -47,6 +50,8 @@ fn edit(plan: &mut Plan, vetoes: &Vetoes, command: &Command) -> Result<(), State
     requires plan { IsFalse (is_veto command.now) }
     requires command { IsCommand command.now }
     ensures answer { AnswersFirst
+        (refusal_of (record { plan = plan.old; vetoes = vetoes.now }) command.now) result }
+    ensures always { SucceedsAlways (takes_memory command.now)
         (refusal_of (record { plan = plan.old; vetoes = vetoes.now }) command.now) result }
     ensures ok { OnOk result (Edits plan.old command.now plan.new) }
     ensures err { OnErr result (plan.new ≡ plan.old) }
@@ -102,6 +107,8 @@ fn edit(plan: &mut Plan, vetoes: &Vetoes, command: &Command) -> Result<(), State
 fn drop_requirement(plan: &mut Plan, vetoes: &Vetoes, name: Name) -> Result<(), StateRefusal>
     ensures answer { AnswersFirst
         (drop_refusal vetoes.now (requirement_of plan.old name)) result }
+    ensures always { SucceedsAlways false
+        (drop_refusal vetoes.now (requirement_of plan.old name)) result }
     ensures ok { OnOk result (plan.new ≡ without_requirement name plan.old) }
     ensures err { OnErr result (plan.new ≡ plan.old) }
 {
@@ -128,6 +135,8 @@ fn veto(plan: &Plan, vetoes: &mut Vetoes, command: &Command) -> Result<(), State
     requires veto { IsTrue (is_veto command.now) }
     requires command { IsCommand command.now }
     ensures answer { AnswersFirst
+        (refusal_of (record { plan = plan.now; vetoes = vetoes.old }) command.now) result }
+    ensures always { SucceedsAlways (takes_memory command.now)
         (refusal_of (record { plan = plan.now; vetoes = vetoes.old }) command.now) result }
     ensures ok { OnOk result (EditsVetoes plan.now vetoes.old command.now vetoes.new) }
     ensures err { OnErr result (vetoes.new ≡ vetoes.old) }
