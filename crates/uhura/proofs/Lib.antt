@@ -1,2 +1,4 @@
 pub mod Pieces
 pub mod Standing
+pub mod Telling
+pub mod Sending

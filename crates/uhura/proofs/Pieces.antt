@@ -26,19 +26,19 @@ pub record Going (begin : Ends) (left : Option (List ℕ)) (given given' room : 
   pub bytes : List ℕ
   pub text : List ℕ
   pub taken : Consumes begin.left left bytes
-  pub added : Appends begin.written point.written text
+  pub added : Appends begin.written point.told.written text
   pub size : length bytes + room ≡ SCRIPT_LIMIT
   pub stands : Stands bytes text refused point
   pub count : given < 2 ^ 63 → given' ≡ given + length bytes
 
 -- before the first read
 pub Going-start : (left : Option (List ℕ)) (given : ℕ) (point : Point) → IsFresh point.reading → point.state ≡ empty_state
-    → Going (record { left = left; written = point.written }) left given given SCRIPT_LIMIT false point
+    → Going (record { left = left; written = point.told.written }) left given given SCRIPT_LIMIT false point
 Going-start left given point fresh begins = record {
   bytes = [];
   text = [];
   taken = Consumes-nil left;
-  added = Appends-nil point.written;
+  added = Appends-nil point.told.written;
   size = refl;
   stands = Stands-nil point fresh.0 begins;
   count = λ _. omega arith;
@@ -92,7 +92,7 @@ Going-more {refused = refused} {some = some} {point' = point'} g buffer n k boun
 -- a read failed
 pub Runs-read_fault : {begin : Ends} {left left' : Option (List ℕ)} {given given' room : ℕ} {refused : Bool} {point : Point}
     → Going begin left given given' room refused point → Keeps left left'
-    → RunsScript begin (record { left = left'; written = point.written }) ReadFault
+    → RunsScript begin (record { left = left'; written = point.told.written }) ReadFault
 Runs-read_fault g kept = record {
   bytes = g.bytes;
   text = g.text;
@@ -106,7 +106,7 @@ pub Runs-stopped : {begin : Ends} {left left' : Option (List ℕ)} {given given'
     → Going begin left given given' room refused point
     → (buffer : List ℕ) (n k : ℕ) (why : Stop) → n ≤ length buffer → k ≡ min n room → Consumes left left' (take n buffer)
     → AnswersBytes (take k buffer) point point' (Err why)
-    → RunsScript begin (record { left = left'; written = point'.written }) (status_of why)
+    → RunsScript begin (record { left = left'; written = point'.told.written }) (status_of why)
 Runs-stopped {left' = left'} {room = room} {refused = refused} g buffer n k why bound is taken a =
     let s : Stops why (lines (whole (g.bytes ++ take k buffer))) (g.text ++ a.text) = a.advances g.bytes g.text refused g.stands in
     record {
@@ -124,7 +124,7 @@ pub Runs-too_long : {begin : Ends} {left left' : Option (List ℕ)} {given given
     → Going begin left given given' room refused point
     → (buffer : List ℕ) (n k : ℕ) → n ≤ length buffer → room < n → k ≡ min n room → Consumes left left' (take n buffer)
     → AnswersBytes (take k buffer) point point' (Ok some)
-    → RunsScript begin (record { left = left'; written = point'.written }) TooLong
+    → RunsScript begin (record { left = left'; written = point'.told.written }) TooLong
 Runs-too_long {room = room} {refused = refused} {some = some} g buffer n k bound over is taken a =
     let s = a.advances g.bytes g.text refused g.stands in
     record {

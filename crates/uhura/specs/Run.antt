@@ -30,11 +30,11 @@ pub record AnswersFirst (ls : List (List ℕ)) (text : List ℕ) : Type 0 where
   pub last : State
   pub conversation : Conversation empty_state (take count ls) text refused last
 
--- the text is a front of such answers: the last of them may be cut short
+-- the text is a front of such answers, and not all of them: some are missing, and one may be cut short
 pub record IsFrontOfAnswers (ls : List (List ℕ)) (text : List ℕ) : Type 0 where
   pub answers : List ℕ
   pub answered : AnswersFirst ls answers
-  pub front : (n : ℕ) × (text ≡ take n answers)
+  pub front : (n : ℕ) × (n < length answers) × (text ≡ take n answers)
 
 -- the text is a transcript of the bytes, refused or not
 abbrev pub IsTranscript : List ℕ → List ℕ → Type 0
@@ -90,7 +90,12 @@ HasSize Usage old new = Unit {0}
 HasSize WriteFault old new = Unit {0}
 HasSize NoMemory old new = Unit {0}
 
--- the faults never fall, and the run has this status only where they rose
-pub record HasFault (fault status : Status) (old new : ℕ) : Type 0 where
-  pub kept : old ≤ new
-  pub cause : status ≡ fault → HasRisen old new
+-- the source's faults rose in a run that ends so, and stayed in every other
+abbrev pub MeetsReadFault : Status → ℕ → ℕ → Type 0
+MeetsReadFault ReadFault old new = HasRisen old new
+MeetsReadFault status old new = new ≡ old
+
+-- and so did the sink's
+abbrev pub MeetsWriteFault : Status → ℕ → ℕ → Type 0
+MeetsWriteFault WriteFault old new = HasRisen old new
+MeetsWriteFault status old new = new ≡ old

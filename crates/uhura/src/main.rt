@@ -2,6 +2,7 @@
 #![tactic(auto)]
 
 mod arguments;
+mod outbox;
 mod run;
 mod script;
 mod status;

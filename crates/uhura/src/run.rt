@@ -1,9 +1,10 @@
 //! A run of the program: its words say what it does, and its status how it ended.
 ghost use Rattle.std.specs.Prelude.{◌≡◌, ◌^◌, ◌<◌};
-ghost use Rattle.uhura.specs.declared.status.Status.TheVariants.{Usage, ReadFault, WriteFault};
-ghost use Rattle.uhura.specs.Run.{task_of, Ends, Runs, RunsScript, HasSize, HasFault};
+ghost use Rattle.uhura.specs.declared.status.Status.TheVariants.{Usage};
+ghost use Rattle.uhura.specs.Run.{task_of, Ends, Runs, RunsScript, HasSize, MeetsReadFault, MeetsWriteFault};
 
 use crate::Status;
+use crate::outbox::Outbox;
 use crate::script::answer_script;
 use crate::task::{Task, read_task};
 use std::alloc::{AllocError, Global};
@@ -19,7 +20,8 @@ use uhura_text::Lines;
 /// by the number of bytes given, where it is below 2^63 at the call.
 ///
 /// Each read asks for 4,096 bytes, and the answers to all whole lines that were read are written before the next
-/// read. No clause says so: it is tested. An answer is composed in memory before its first byte is written.
+/// read, at once where they have at most 65,536 bytes. No clause says so: it is tested. An answer is composed in memory
+/// before its first byte is written.
 pub fn run<S: Source, K: Sink>(
     alloc: Global,
     words: &Vec<String>,
@@ -34,8 +36,8 @@ pub fn run<S: Source, K: Sink>(
     // These hold of a source and a sink that tell nothing, too.
     ensures size { S.given source.old < 2 ^ 63 →
         HasSize result (S.given source.old) (S.given source.new) }
-    ensures read_fault { HasFault ReadFault result (S.faults source.old) (S.faults source.new) }
-    ensures write_fault { HasFault WriteFault result (K.faults sink.old) (K.faults sink.new) }
+    ensures read_fault { MeetsReadFault result (S.faults source.old) (S.faults source.new) }
+    ensures write_fault { MeetsWriteFault result (K.faults sink.old) (K.faults sink.new) }
 {
     match read_task(words) {
         Some(Task::Script) => run_script(alloc, source, sink),
@@ -50,8 +52,8 @@ fn run_script<S: Source, K: Sink>(alloc: Global, source: &mut S, sink: &mut K) -
         (record { left = S.left source.new; written = K.written sink.new }) result }
     ensures size { S.given source.old < 2 ^ 63 →
         HasSize result (S.given source.old) (S.given source.new) }
-    ensures read_fault { HasFault ReadFault result (S.faults source.old) (S.faults source.new) }
-    ensures write_fault { HasFault WriteFault result (K.faults sink.old) (K.faults sink.new) }
+    ensures read_fault { MeetsReadFault result (S.faults source.old) (S.faults source.new) }
+    ensures write_fault { MeetsWriteFault result (K.faults sink.old) (K.faults sink.new) }
 {
     let mut lines = match Lines::new(alloc) {
         Ok(lines) => lines,
@@ -61,5 +63,11 @@ fn run_script<S: Source, K: Sink>(alloc: Global, source: &mut S, sink: &mut K) -
         Ok(session) => session,
         Err(AllocError) => return Status::NoMemory,
     };
-    answer_script(&mut lines, &mut session, source, sink)
+    answer_script(
+        &mut lines,
+        &mut session,
+        &mut Outbox::new(alloc),
+        source,
+        sink,
+    )
 }

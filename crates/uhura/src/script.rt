@@ -1,15 +1,17 @@
 //! The answers to a script, line by line as its bytes are read.
-ghost use Rattle.std.specs.Prelude.{◌≡◌, ◌^◌, ◌<◌, ◌≤◌, ◌∷◌, []};
-ghost use Rattle.uhura_io.specs.Streams.{HasRisen};
+ghost use Rattle.std.specs.Prelude.{◌≡◌, ◌≢◌, ◌^◌, ◌<◌, ◌∷◌, [], Err, OnOk};
 ghost use Rattle.uhura_text.specs.Reading.{IsFresh};
 ghost use Rattle.uhura_command.specs.State.{empty_state};
-ghost use Rattle.uhura.specs.declared.status.Status.TheVariants.{ReadFault, WriteFault};
-ghost use Rattle.uhura.specs.Run.{RunsScript, HasSize, HasFault};
-ghost use Rattle.uhura.specs.Script.{AnswersLine, AnswersBytes, AnswersEnd, HasStopCause, status_of, EndsRun};
+ghost use Rattle.uhura.specs.Run.{RunsScript, HasSize, MeetsReadFault, MeetsWriteFault};
+ghost use Rattle.uhura.specs.declared.script.Stop.TheVariants.{WriteFault};
+ghost use Rattle.uhura.specs.declared.status.Status.TheVariants.{ReadFault};
+ghost use Rattle.uhura.specs.Script.{AnswersLine, FeedsBytes, FeedsEnd, HasStopCause};
+ghost use Rattle.uhura.specs.Script.{IsSent, AnswersBytes, AnswersEnd, status_of, EndsRun};
 
 use crate::Status;
+use crate::outbox::Outbox;
 use std::alloc::AllocError;
-use uhura_io::{Failed, Sink, Source, write_all};
+use uhura_io::{Failed, Sink, Source};
 use uhura_session::Session;
 use uhura_text::{Fed, Lines};
 
@@ -27,17 +29,28 @@ pub(crate) enum Stop {
 }
 
 /// Answers one line, and says whether it is refused.
-fn answer_line<K: Sink>(session: &mut Session, line: &[u8], sink: &mut K) -> Result<bool, Stop>
+fn answer_line<K: Sink>(
+    session: &mut Session,
+    line: &[u8],
+    outbox: &mut Outbox,
+    sink: &mut K,
+) -> Result<bool, Stop>
     ensures line { AnswersLine line.now
-        (record { state = session.old.state; written = K.written sink.old }) result
-        (record { state = session.new.state; written = K.written sink.new }) }
+        (record {
+          state = session.old.state;
+          told = record { written = K.written sink.old; waiting = outbox.old };
+        }) result
+        (record {
+          state = session.new.state;
+          told = record { written = K.written sink.new; waiting = outbox.new };
+        }) }
     ensures cause { HasStopCause (K.faults sink.old) (K.faults sink.new) result }
 {
     let answer = match session.line(line) {
         Ok(answer) => answer,
         Err(AllocError) => return Err(Stop::NoMemory),
     };
-    match write_all(sink, answer.text) {
+    match outbox.put(sink, answer.text) {
         Ok(()) => Ok(answer.refused),
         Err(Failed) => Err(Stop::WriteFault),
     }
@@ -47,31 +60,48 @@ fn answer_line<K: Sink>(session: &mut Session, line: &[u8], sink: &mut K) -> Res
 fn feed<K: Sink>(
     lines: &mut Lines,
     session: &mut Session,
+    outbox: &mut Outbox,
     sink: &mut K,
     byte: u8,
 ) -> Result<bool, Stop>
-    ensures bytes { AnswersBytes (byte ∷ [])
-        (record { reading = lines.old; state = session.old.state; written = K.written sink.old })
-        (record { reading = lines.new; state = session.new.state; written = K.written sink.new })
-        result }
+    ensures bytes { FeedsBytes (byte ∷ [])
+        (record {
+          reading = lines.old;
+          state = session.old.state;
+          told = record { written = K.written sink.old; waiting = outbox.old };
+        })
+        (record {
+          reading = lines.new;
+          state = session.new.state;
+          told = record { written = K.written sink.new; waiting = outbox.new };
+        }) result }
     ensures cause { HasStopCause (K.faults sink.old) (K.faults sink.new) result }
 {
     match lines.feed(byte) {
         Fed::More => Ok(false),
-        Fed::Line | Fed::Long => answer_line(session, lines.line(), sink),
+        Fed::Line | Fed::Long => answer_line(session, lines.line(), outbox, sink),
     }
 }
 
 /// Answers the line that the end of the input ends. Says whether it was refused.
-fn finish<K: Sink>(lines: &mut Lines, session: &mut Session, sink: &mut K) -> Result<bool, Stop>
-    ensures end { AnswersEnd
-        (record { reading = lines.old; state = session.old.state; written = K.written sink.old })
-        (K.written sink.new) result }
+fn finish<K: Sink>(
+    lines: &mut Lines,
+    session: &mut Session,
+    outbox: &mut Outbox,
+    sink: &mut K,
+) -> Result<bool, Stop>
+    ensures end { FeedsEnd
+        (record {
+          reading = lines.old;
+          state = session.old.state;
+          told = record { written = K.written sink.old; waiting = outbox.old };
+        })
+        (record { written = K.written sink.new; waiting = outbox.new }) result }
     ensures cause { HasStopCause (K.faults sink.old) (K.faults sink.new) result }
 {
     match lines.finish() {
         Fed::More => Ok(false),
-        Fed::Line | Fed::Long => answer_line(session, lines.line(), sink),
+        Fed::Line | Fed::Long => answer_line(session, lines.line(), outbox, sink),
     }
 }
 
@@ -79,18 +109,26 @@ fn finish<K: Sink>(lines: &mut Lines, session: &mut Session, sink: &mut K) -> Re
 fn feed_all<K: Sink>(
     lines: &mut Lines,
     session: &mut Session,
+    outbox: &mut Outbox,
     sink: &mut K,
     bytes: &[u8],
 ) -> Result<bool, Stop>
-    ensures bytes { AnswersBytes bytes.now
-        (record { reading = lines.old; state = session.old.state; written = K.written sink.old })
-        (record { reading = lines.new; state = session.new.state; written = K.written sink.new })
-        result }
+    ensures bytes { FeedsBytes bytes.now
+        (record {
+          reading = lines.old;
+          state = session.old.state;
+          told = record { written = K.written sink.old; waiting = outbox.old };
+        })
+        (record {
+          reading = lines.new;
+          state = session.new.state;
+          told = record { written = K.written sink.new; waiting = outbox.new };
+        }) result }
     ensures cause { HasStopCause (K.faults sink.old) (K.faults sink.new) result }
 {
     let mut refused = false;
     for byte in bytes {
-        match feed(lines, session, sink, *byte) {
+        match feed(lines, session, outbox, sink, *byte) {
             Ok(some) => refused |= some,
             Err(stop) => return Err(stop),
         }
@@ -98,23 +136,98 @@ fn feed_all<K: Sink>(
     Ok(refused)
 }
 
+/// Writes the answers that wait. What was answered stands, unless the sink fails.
+fn send<K: Sink>(
+    answered: Result<bool, Stop>,
+    outbox: &mut Outbox,
+    sink: &mut K,
+) -> Result<bool, Stop>
+    requires { answered ≢ Err WriteFault }
+    ensures sent { IsSent answered
+        (record { written = K.written sink.old; waiting = outbox.old }) result
+        (K.written sink.new) }
+    ensures none { OnOk result (outbox.new ≡ []) }
+    ensures cause { HasStopCause (K.faults sink.old) (K.faults sink.new) result }
+{
+    match outbox.send(sink) {
+        Ok(()) => answered,
+        Err(Failed) => Err(Stop::WriteFault),
+    }
+}
+
+/// Answers the lines that some bytes end, and writes the answers. Says whether a line was refused.
+fn answer_piece<K: Sink>(
+    lines: &mut Lines,
+    session: &mut Session,
+    outbox: &mut Outbox,
+    sink: &mut K,
+    bytes: &[u8],
+) -> Result<bool, Stop>
+    requires { outbox.old ≡ [] }
+    ensures bytes { AnswersBytes bytes.now
+        (record {
+          reading = lines.old;
+          state = session.old.state;
+          told = record { written = K.written sink.old; waiting = outbox.old };
+        })
+        (record {
+          reading = lines.new;
+          state = session.new.state;
+          told = record { written = K.written sink.new; waiting = outbox.new };
+        }) result }
+    ensures none { OnOk result (outbox.new ≡ []) }
+    ensures cause { HasStopCause (K.faults sink.old) (K.faults sink.new) result }
+{
+    match feed_all(lines, session, outbox, sink, bytes) {
+        Ok(some) => send(Ok(some), outbox, sink),
+        Err(Stop::NoMemory) => send(Err(Stop::NoMemory), outbox, sink),
+        Err(Stop::WriteFault) => Err(Stop::WriteFault),
+    }
+}
+
+/// Answers the line that the end of the input ends, and writes the answer. Says whether it was refused.
+fn answer_end<K: Sink>(
+    lines: &mut Lines,
+    session: &mut Session,
+    outbox: &mut Outbox,
+    sink: &mut K,
+) -> Result<bool, Stop>
+    requires { outbox.old ≡ [] }
+    ensures end { AnswersEnd
+        (record {
+          reading = lines.old;
+          state = session.old.state;
+          told = record { written = K.written sink.old; waiting = outbox.old };
+        })
+        (K.written sink.new) result }
+    ensures cause { HasStopCause (K.faults sink.old) (K.faults sink.new) result }
+{
+    match finish(lines, session, outbox, sink) {
+        Ok(some) => send(Ok(some), outbox, sink),
+        Err(Stop::NoMemory) => send(Err(Stop::NoMemory), outbox, sink),
+        Err(Stop::WriteFault) => Err(Stop::WriteFault),
+    }
+}
+
 /// Reads a script to its end, or to what stops it first, and answers its lines as they are read.
 pub(crate) fn answer_script<S: Source, K: Sink>(
     lines: &mut Lines,
     session: &mut Session,
+    outbox: &mut Outbox,
     source: &mut S,
     sink: &mut K,
 ) -> Status
     requires fresh { IsFresh lines.old }
     requires begins { session.old.state ≡ empty_state }
+    requires empty { outbox.old ≡ [] }
 
     ensures outcome { RunsScript
         (record { left = S.left source.old; written = K.written sink.old })
         (record { left = S.left source.new; written = K.written sink.new }) result }
     ensures size { S.given source.old < 2 ^ 63 →
         HasSize result (S.given source.old) (S.given source.new) }
-    ensures read_fault { HasFault ReadFault result (S.faults source.old) (S.faults source.new) }
-    ensures write_fault { HasFault WriteFault result (K.faults sink.old) (K.faults sink.new) }
+    ensures read_fault { MeetsReadFault result (S.faults source.old) (S.faults source.new) }
+    ensures write_fault { MeetsWriteFault result (K.faults sink.old) (K.faults sink.new) }
 {
     let mut buffer = [0; PIECE];
     let mut room = SCRIPT_LIMIT;
@@ -125,9 +238,9 @@ pub(crate) fn answer_script<S: Source, K: Sink>(
             Err(Failed) => return Status::ReadFault,
         };
         if given == 0 {
-            return end_status(lines, session, sink, refused);
+            return end_status(lines, session, outbox, sink, refused);
         }
-        match feed_all(lines, session, sink, &buffer[..given.min(room)]) {
+        match answer_piece(lines, session, outbox, sink, &buffer[..given.min(room)]) {
             Ok(some) => refused |= some,
             Err(stop) => return status_of(stop),
         }
@@ -142,15 +255,22 @@ pub(crate) fn answer_script<S: Source, K: Sink>(
 fn end_status<K: Sink>(
     lines: &mut Lines,
     session: &mut Session,
+    outbox: &mut Outbox,
     sink: &mut K,
     refused: bool,
 ) -> Status
+    requires { outbox.old ≡ [] }
     ensures end { EndsRun
-        (record { reading = lines.old; state = session.old.state; written = K.written sink.old })
+        (record {
+          reading = lines.old;
+          state = session.old.state;
+          told = record { written = K.written sink.old; waiting = outbox.old };
+        })
         (K.written sink.new) refused result }
-    ensures write_fault { HasFault WriteFault result (K.faults sink.old) (K.faults sink.new) }
+    ensures not_read { result ≢ ReadFault }
+    ensures write_fault { MeetsWriteFault result (K.faults sink.old) (K.faults sink.new) }
 {
-    match finish(lines, session, sink) {
+    match answer_end(lines, session, outbox, sink) {
         Ok(some) => {
             if refused || some {
                 Status::Refused

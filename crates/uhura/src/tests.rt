@@ -50,7 +50,9 @@ fn the_first_fault_ends_the_run(rt: HostRuntime) -> Result<(), AllocError> {
     let three = b"event a\nevent b\nevent c\n".as_slice();
     for (script, piece, read, write, status, written) in [
         (three, 19, 2, 0, 4, b"ok\nok\n".as_slice()),
-        (three, 19, 2, 2, 5, b"ok\n"),
+        (three, 19, 0, 2, 5, b"ok\nok\n"),
+        // One write has the answers of one read, so there is no second one that fails.
+        (three, 4096, 0, 2, 0, b"ok\nok\nok\n"),
         (b"event a\n", 4096, 1, 1, 4, b""),
         (b"event a\nevent b", 8, 2, 0, 4, b"ok\n"),
         (b"event a\nevent b", 8, 3, 0, 4, b"ok\n"),

@@ -1,6 +1,9 @@
-use Rattle.std.proofs.Common.{arith}
-use Rattle.uhura.proofs.Standing.{piece-more, piece-stopped}
+use Rattle.std.proofs.Common.{refl, ◌∙◌}
+use Rattle.uhura.proofs.Standing.{bytes-none, piece-more, piece-stopped}
 use Rattle.uhura.proofs.script.feed_all.Goals as goal
+
+pub loop-byte-init : goal.loop-byte-init
+loop-byte-init g c = record { fed = bytes-none _; faults = refl }
 
 pub returns-in-Err-clause-bytes : goal.returns-in-Err-clause-bytes
 returns-in-Err-clause-bytes g c =
@@ -9,5 +12,5 @@ returns-in-Err-clause-bytes g c =
 pub loop-byte-preserved : goal.loop-byte-preserved
 loop-byte-preserved g c = record {
   fed = piece-more _ _ _ _ _ _ _ c.loop-byte-test.true c.loop-byte.invariant.fed c.in-Ok.ensures.bytes;
-  kept = omega (arith, c.loop-byte.invariant.kept, c.in-Ok.ensures.cause.kept);
+  faults = c.in-Ok.ensures.cause ∙ c.loop-byte.invariant.faults;
 }
