@@ -11,7 +11,7 @@ use Rattle.uhura_text.specs.Reading.{IsFresh}
 use Rattle.uhura_command.specs.State.{empty_state}
 use Rattle.uhura_session.specs.Transcript.{Transcript}
 use Rattle.uhura_session.proofs.Conversing.{Conversation-nil}
-use Rattle.uhura.specs.declared.script.TheConstants.{SCRIPT_LIMIT}
+use Rattle.uhura.specs.declared.bytes.TheConstants.{INPUT_LIMIT}
 use Rattle.uhura.specs.Run.{Ends, AreRead, Leaves, RunsScript}
 use Rattle.uhura.specs.Script.{Point, Stops, Stands, AnswersBytes, EndsRun, CompletesAs, status_of}
 use Rattle.uhura.specs.declared.script.Stop.{Stop}
@@ -27,13 +27,13 @@ pub record Going (begin : Ends) (left : Option (List ℕ)) (given given' room : 
   pub text : List ℕ
   pub taken : Consumes begin.left left bytes
   pub added : Appends begin.written point.told.written text
-  pub size : length bytes + room ≡ SCRIPT_LIMIT
+  pub size : length bytes + room ≡ INPUT_LIMIT
   pub stands : Stands bytes text refused point
   pub count : given < 2 ^ 63 → given' ≡ given + length bytes
 
 -- before the first read
 pub Going-start : (left : Option (List ℕ)) (given : ℕ) (point : Point) → IsFresh point.reading → point.state ≡ empty_state
-    → Going (record { left = left; written = point.told.written }) left given given SCRIPT_LIMIT false point
+    → Going (record { left = left; written = point.told.written }) left given given INPUT_LIMIT false point
 Going-start left given point fresh begins = record {
   bytes = [];
   text = [];
@@ -51,7 +51,7 @@ leaves-stopped stop.WriteFault bytes text left ls read s = (ls, read, s)
 leaves-stopped stop.NoMemory bytes text left ls read s = (ls, read, s)
 
 -- at the end of the input the run leaves what its status says
-leaves-completed : (result : Status) (bytes text : List ℕ) (left : Option (List ℕ)) → IsAtEnd left → length bytes ≤ SCRIPT_LIMIT
+leaves-completed : (result : Status) (bytes text : List ℕ) (left : Option (List ℕ)) → IsAtEnd left → length bytes ≤ INPUT_LIMIT
     → CompletesAs bytes text result → Leaves result bytes text left
 leaves-completed Done bytes text left end within c = record { end = end; within = within; transcript = c }
 leaves-completed Refused bytes text left end within c = record { end = end; within = within; transcript = c }
@@ -62,8 +62,8 @@ leaves-completed WriteFault bytes text left end within c = (lines bytes, inr (en
 leaves-completed NoMemory bytes text left end within c = (lines bytes, inr (end, within, refl), c)
 
 -- the bytes within the limit: those so far, and of a piece those for which there is room
-within-limit : (bytes buffer : List ℕ) (room n k : ℕ) → length bytes + room ≡ SCRIPT_LIMIT → n ≤ length buffer → k ≡ min n room
-    → take SCRIPT_LIMIT (bytes ++ take n buffer) ≡ bytes ++ take k buffer
+within-limit : (bytes buffer : List ℕ) (room n k : ℕ) → length bytes + room ≡ INPUT_LIMIT → n ≤ length buffer → k ≡ min n room
+    → take INPUT_LIMIT (bytes ++ take n buffer) ≡ bytes ++ take k buffer
 within-limit bytes buffer room n k size bound is =
     ap (λ m. take m (bytes ++ take n buffer)) (sym size) ∙ take-append-add bytes (take n buffer) room ∙ ap (λ l. bytes ++ l) cut
   where
@@ -163,7 +163,7 @@ Runs-no_memory ends = record {
   taken = Consumes-nil ends.left;
   added = Appends-nil ends.written;
   leaves = (
-    lines (whole (take SCRIPT_LIMIT [])),
+    lines (whole (take INPUT_LIMIT [])),
     inl refl,
     record {
       count = 0;

@@ -1,3 +1,5 @@
+pub mod Bytes
+pub mod Verdict
 pub mod Run
 pub mod Told
 pub mod Script

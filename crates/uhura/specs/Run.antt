@@ -6,16 +6,22 @@ use Rattle.uhura_text.specs.Lines.{lines, whole}
 use Rattle.uhura_veto.specs.State.{State}
 use Rattle.uhura_command.specs.State.{empty_state}
 use Rattle.uhura_session.specs.Transcript.{Conversation, Transcript}
-use Rattle.uhura.specs.declared.script.TheConstants.{SCRIPT_LIMIT}
+use Rattle.uhura.specs.declared.bytes.TheConstants.{INPUT_LIMIT}
 use Rattle.uhura.specs.declared.task.Task.{Task}
-use Rattle.uhura.specs.declared.task.Task.TheVariants.{Script}
+use Rattle.uhura.specs.declared.task.Task.TheVariants.{Script, Check}
+use Rattle.uhura.specs.Verdict.{TellsVerdict}
 use Rattle.uhura.specs.declared.status.Status.{Status}
 use Rattle.uhura.specs.declared.status.Status.TheVariants.{Done, Refused, Usage, TooLong, ReadFault, WriteFault, NoMemory}
 
--- what the words ask for: no word, or the word run, asks for the answers to a script, and other words for nothing
+-- what one word asks for: the word run for the answers to a script, the word check for the verdict on a document
+abbrev pub task_named : List ℕ → Option Task
+task_named word = if bytes_eq word (codes "run") then Some Script
+    else if bytes_eq word (codes "check") then Some Check else None
+
+-- what the words ask for: no word asks for what the word run does, and more words for nothing
 abbrev pub task_of : {A : Type 0} → List (String A) → Option Task
 task_of [] = Some Script
-task_of (word ∷ []) = if bytes_eq (string_bytes word) (codes "run") then Some Script else None
+task_of (word ∷ []) = task_named (string_bytes word)
 task_of (word ∷ next ∷ more) = None
 
 -- what the source has left and what was written to the sink, where they tell it
@@ -44,13 +50,13 @@ IsTranscript bytes text = (refused : Bool) × Transcript bytes text refused
 -- last one only where the source is at its end within the limit
 abbrev pub AreRead : List (List ℕ) → List ℕ → Option (List ℕ) → Type 0
 AreRead ls bytes left =
-    (ls ≡ lines (whole (take SCRIPT_LIMIT bytes)))
-    ⊎ (IsAtEnd left × (length bytes ≤ SCRIPT_LIMIT) × (ls ≡ lines bytes))
+    (ls ≡ lines (whole (take INPUT_LIMIT bytes)))
+    ⊎ (IsAtEnd left × (length bytes ≤ INPUT_LIMIT) × (ls ≡ lines bytes))
 
 -- the bytes were read to their end, within the limit, and the text answers all their lines
 pub record IsAnswered (bytes text : List ℕ) (left : Option (List ℕ)) (refused : Bool) : Type 0 where
   pub end : IsAtEnd left
-  pub within : length bytes ≤ SCRIPT_LIMIT
+  pub within : length bytes ≤ INPUT_LIMIT
   pub transcript : Transcript bytes text refused
 
 -- by the status: what the text that was written is of the bytes that were read
@@ -59,8 +65,8 @@ Leaves Done bytes text left = IsAnswered bytes text left false
 Leaves Refused bytes text left = IsAnswered bytes text left true
 Leaves Usage bytes text left = ⊥
 Leaves TooLong bytes text left =
-    (SCRIPT_LIMIT < length bytes) × IsTranscript (whole (take SCRIPT_LIMIT bytes)) text
-Leaves ReadFault bytes text left = (length bytes ≤ SCRIPT_LIMIT) × IsTranscript (whole bytes) text
+    (INPUT_LIMIT < length bytes) × IsTranscript (whole (take INPUT_LIMIT bytes)) text
+Leaves ReadFault bytes text left = (length bytes ≤ INPUT_LIMIT) × IsTranscript (whole bytes) text
 Leaves WriteFault bytes text left =
     (ls : List (List ℕ)) × AreRead ls bytes left × IsFrontOfAnswers ls text
 Leaves NoMemory bytes text left =
@@ -74,18 +80,43 @@ pub record RunsScript (before after : Ends) (status : Status) : Type 0 where
   pub added : Appends before.written after.written text
   pub leaves : Leaves status bytes text after.left
 
--- by what the words ask for: a script is run, and words that ask for nothing are answered Usage
+-- the verdict on the bytes up to the end of the source was told
+abbrev pub IsChecked : List ℕ → Ends → Ends → Status → Type 0
+IsChecked bytes before after status = IsAtEnd after.left × (length bytes ≤ INPUT_LIMIT)
+    × TellsVerdict (lines bytes) before.written after.written status
+
+-- by the status: the verdict was told, or a front of it; or nothing was written, where the bytes are too many, or some
+-- could not be read, or there was no memory
+abbrev pub LeavesVerdict : Status → List ℕ → Ends → Ends → Type 0
+LeavesVerdict Done bytes before after = IsChecked bytes before after Done
+LeavesVerdict Refused bytes before after = IsChecked bytes before after Refused
+LeavesVerdict Usage bytes before after = ⊥
+LeavesVerdict TooLong bytes before after =
+    (INPUT_LIMIT < length bytes) × Appends before.written after.written []
+LeavesVerdict ReadFault bytes before after =
+    (length bytes ≤ INPUT_LIMIT) × Appends before.written after.written []
+LeavesVerdict WriteFault bytes before after = IsChecked bytes before after WriteFault
+LeavesVerdict NoMemory bytes before after = Appends before.written after.written []
+
+-- the check of a document took bytes from the source, and told of them what its status says
+pub record ChecksDocument (before after : Ends) (status : Status) : Type 0 where
+  pub bytes : List ℕ
+  pub taken : Consumes before.left after.left bytes
+  pub leaves : LeavesVerdict status bytes before after
+
+-- by what the words ask for: a script is run, a document is checked, and words that ask for nothing are answered Usage
 abbrev pub Runs : Option Task → Ends → Ends → Status → Type 0
 Runs None before after status = status ≡ Usage
 Runs (Some Script) before after status = RunsScript before after status
+Runs (Some Check) before after status = ChecksDocument before after status
 
--- by the bytes given before and after: a script that was read to its end, or to a read fault, is within the limit,
+-- by the bytes given before and after: an input that was read to its end, or to a read fault, is within the limit,
 -- and one that is too long is past it
 abbrev pub HasSize : Status → ℕ → ℕ → Type 0
-HasSize Done old new = new ≤ old + SCRIPT_LIMIT
-HasSize Refused old new = new ≤ old + SCRIPT_LIMIT
-HasSize ReadFault old new = new ≤ old + SCRIPT_LIMIT
-HasSize TooLong old new = old + SCRIPT_LIMIT < new
+HasSize Done old new = new ≤ old + INPUT_LIMIT
+HasSize Refused old new = new ≤ old + INPUT_LIMIT
+HasSize ReadFault old new = new ≤ old + INPUT_LIMIT
+HasSize TooLong old new = old + INPUT_LIMIT < new
 HasSize Usage old new = Unit {0}
 HasSize WriteFault old new = Unit {0}
 HasSize NoMemory old new = Unit {0}

@@ -1,12 +1,15 @@
-//! Uhura: reads a script of edits and questions, and answers line by line.
+//! Uhura: reads a script of edits and questions, and answers line by line; or reads a document, and checks it.
 #![tactic(auto)]
 
 mod arguments;
+mod bytes;
+mod document;
 mod outbox;
 mod run;
 mod script;
 mod status;
 mod task;
+mod verdict;
 #[cfg(test)]
 mod tests;
 

@@ -4,6 +4,7 @@ ghost use Rattle.uhura.specs.declared.status.Status.TheVariants.{Usage};
 ghost use Rattle.uhura.specs.Run.{task_of, Ends, Runs, RunsScript, HasSize, MeetsReadFault, MeetsWriteFault};
 
 use crate::Status;
+use crate::document::check_document;
 use crate::outbox::Outbox;
 use crate::script::answer_script;
 use crate::task::{Task, read_task};
@@ -13,7 +14,8 @@ use uhura_session::Session;
 use uhura_text::Lines;
 
 /// Does what the words ask for. With no word, or the one word `run`, it reads a script from the source and writes the
-/// answers to its lines, in order, to the sink.
+/// answers to its lines, in order, to the sink. With the one word `check` it reads a document, and writes `confirmed`,
+/// or `not confirmed` with the first condition that it fails and the line of it.
 ///
 /// `outcome` speaks of the bytes where the source tells what it has left and the sink what was written: only there
 /// are Done and Refused told apart. The causes of the other statuses hold of every source and sink, that of `TooLong`
@@ -41,6 +43,7 @@ pub fn run<S: Source, K: Sink>(
 {
     match read_task(words) {
         Some(Task::Script) => run_script(alloc, source, sink),
+        Some(Task::Check) => check_document(alloc, source, sink),
         None => Status::Usage,
     }
 }

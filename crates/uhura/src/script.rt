@@ -9,17 +9,12 @@ ghost use Rattle.uhura.specs.Script.{AnswersLine, FeedsBytes, FeedsEnd, HasStopC
 ghost use Rattle.uhura.specs.Script.{IsSent, AnswersBytes, AnswersEnd, status_of, EndsRun};
 
 use crate::Status;
+use crate::bytes::{INPUT_LIMIT, PIECE};
 use crate::outbox::Outbox;
 use std::alloc::AllocError;
 use uhura_io::{Failed, Sink, Source};
 use uhura_session::Session;
 use uhura_text::{Fed, Lines};
-
-/// How many bytes each read asks for.
-const PIECE: usize = 4096;
-
-/// How many bytes a script may have.
-const SCRIPT_LIMIT: usize = 67_108_864;
 
 /// Why the answers end before the script does.
 #[derive(Clone, Copy, Debug, PartialEq, Eq)]
@@ -230,7 +225,7 @@ pub(crate) fn answer_script<S: Source, K: Sink>(
     ensures write_fault { MeetsWriteFault result (K.faults sink.old) (K.faults sink.new) }
 {
     let mut buffer = [0; PIECE];
-    let mut room = SCRIPT_LIMIT;
+    let mut room = INPUT_LIMIT;
     let mut refused = false;
     'pieces: loop {
         let given = match source.read(&mut buffer) {
