@@ -1,3 +1,4 @@
+pub mod Taking
 pub mod Pieces
 pub mod Standing
 pub mod Telling

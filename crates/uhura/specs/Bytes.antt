@@ -6,14 +6,18 @@ use Rattle.uhura.specs.declared.bytes.TheConstants.{INPUT_LIMIT}
 use Rattle.uhura.specs.declared.bytes.Unread.{Unread}
 use Rattle.uhura.specs.declared.bytes.Unread.TheVariants.{TooLong, ReadFault, NoMemory}
 
--- by how it ended: all bytes up to the end, within the limit; or some, past the limit or within it
-abbrev pub Takes : Option (List ℕ) → Option (List ℕ) → Result (List ℕ) Unread → Type 0
-Takes old new (Ok bytes) = Consumes old new bytes × IsAtEnd new × (length bytes ≤ INPUT_LIMIT)
-Takes old new (Err TooLong) =
-    (bytes : List ℕ) × Consumes old new bytes × (INPUT_LIMIT < length bytes)
-Takes old new (Err ReadFault) =
+-- all bytes up to the end were taken, within the limit
+pub record TakesAll (old new : Option (List ℕ)) (bytes : List ℕ) : Type 0 where
+  pub taken : Consumes old new bytes
+  pub end : IsAtEnd new
+  pub within : length bytes ≤ INPUT_LIMIT
+
+-- some were, past the limit or within it
+abbrev pub TakesSome : Option (List ℕ) → Option (List ℕ) → Unread → Type 0
+TakesSome old new TooLong = (bytes : List ℕ) × Consumes old new bytes × (INPUT_LIMIT < length bytes)
+TakesSome old new ReadFault =
     (bytes : List ℕ) × Consumes old new bytes × (length bytes ≤ INPUT_LIMIT)
-Takes old new (Err NoMemory) = (bytes : List ℕ) × Consumes old new bytes
+TakesSome old new NoMemory = (bytes : List ℕ) × Consumes old new bytes
 
 -- by the bytes given before and after
 abbrev pub HasTaken : {A : Type 0} → Result A Unread → ℕ → ℕ → Type 0

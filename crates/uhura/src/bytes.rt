@@ -1,6 +1,6 @@
 //! The bytes of the input, all at once.
-ghost use Rattle.std.specs.Prelude.{◌≡◌, ◌^◌, ◌<◌};
-ghost use Rattle.uhura.specs.Bytes.{Takes, HasTaken, MeetsFault};
+ghost use Rattle.std.specs.Prelude.{◌^◌, ◌<◌, IfOk, IfErr};
+ghost use Rattle.uhura.specs.Bytes.{TakesAll, TakesSome, HasTaken, MeetsFault};
 
 use std::alloc::{AllocError, Global};
 use uhura_io::{Failed, Source};
@@ -21,7 +21,9 @@ pub(crate) enum Unread {
 
 /// Reads the input to its end, or to what stops it first.
 pub(crate) fn read_all<S: Source>(alloc: Global, source: &mut S) -> Result<Vec<u8>, Unread>
-    ensures taken { Takes (S.left source.old) (S.left source.new) result }
+    ensures all { IfOk result (λ bytes.
+        TakesAll (S.left source.old) (S.left source.new) bytes.items) }
+    ensures some { IfErr result (TakesSome (S.left source.old) (S.left source.new)) }
     ensures size { S.given source.old < 2 ^ 63 →
         HasTaken result (S.given source.old) (S.given source.new) }
     ensures fault { MeetsFault result (S.faults source.old) (S.faults source.new) }

@@ -1,5 +1,5 @@
 //! What the words on the command line ask for.
-ghost use Rattle.std.specs.Prelude.{◌≡◌, str_bytes};
+ghost use Rattle.std.specs.Prelude.{◌≡◌};
 ghost use Rattle.uhura.specs.Run.{task_named, task_of};
 
 /// What the program is asked to do.
@@ -24,7 +24,7 @@ pub(crate) fn read_task(words: &Vec<String>) -> Option<Task>
 
 /// The task that one word asks for.
 fn task_named(word: &str) -> Option<Task>
-    ensures { result ≡ task_named (str_bytes word.now) }
+    ensures { result ≡ task_named word.now }
 {
     if word == "run" {
         return Some(Task::Script);

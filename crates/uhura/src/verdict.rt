@@ -1,7 +1,7 @@
 //! What is said of a document.
 ghost use Rattle.std.specs.Prelude.{◌≡◌, [], IfOk};
 ghost use Rattle.uhura_text.specs.Lines.{lines};
-ghost use Rattle.uhura.specs.Verdict.{IsJudged, verdict_line, code_name};
+ghost use Rattle.uhura.specs.Verdict.{IsJudged, verdict_line, refusal_line, code_name};
 
 use std::alloc::{AllocError, Global};
 use uhura_cert::{DocumentRefusal, read_document};
