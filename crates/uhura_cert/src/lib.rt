@@ -18,9 +18,11 @@ mod order;
 mod prefix;
 mod proposal;
 mod script_line;
+mod stub;
 mod write;
 
 pub use document::{Document, DocumentRefusal, Leaf, Proposal, Reason, Shared};
 pub use listed::Listed;
 pub use proposal::put_proposal;
+pub use stub::read_document;
 pub use write::{write_document, write_proposal};
