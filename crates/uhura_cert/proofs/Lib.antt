@@ -22,3 +22,5 @@ pub mod EndOf
 pub mod Nexts
 pub mod Taken
 pub mod PrefixNames
+pub mod RisingSides
+pub mod ReadLines

@@ -15,9 +15,12 @@ mod named;
 mod next;
 pub mod one_by_one;
 mod order;
+mod place;
 mod prefix;
 mod proposal;
+mod reader;
 mod script_line;
+mod sides;
 mod write;
 
 pub use document::{Document, DocumentRefusal, Leaf, Proposal, Reason, Shared};
