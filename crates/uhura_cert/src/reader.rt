@@ -1,8 +1,9 @@
 //! A reader of documents, line by line.
-ghost use Rattle.std.specs.Prelude.{◌≡◌, IfOk};
+ghost use Rattle.std.specs.Prelude.{◌≡◌, true, false, IfOk};
 ghost use Rattle.uhura_item.specs.Item.{IsItem};
-ghost use Rattle.uhura_cert.specs.Machine.{start, Step, Takes};
-ghost use Rattle.uhura_cert.specs.Reading.{spot_of, StepsTo};
+ghost use Rattle.uhura_cert.specs.Document.{Document};
+ghost use Rattle.uhura_cert.specs.Machine.{start, done, Step, Takes};
+ghost use Rattle.uhura_cert.specs.Reading.{document_of, spot_of, StepsTo};
 
 mod answer;
 mod entries;
@@ -63,8 +64,16 @@ impl Reader {
         })
     }
 
+    /// Whether the last line of a document is taken.
+    pub(crate) fn is_done(&self) -> bool
+        ensures yes { result ≡ true → spot_of self.now ≡ done (document_of self.now) }
+        ensures no { result ≡ false → (d : Document) → spot_of self.now ≡ done d → ⊥ }
+    {
+        matches!(self.place, Place::Done)
+    }
+
     /// Takes the next line, without its newline, and says whether it may come there.
-    #[tactic(auto, using(crate::proofs::ReadLines::no_item, crate::proofs::ReadLines::stepped))]
+    #[tactic(auto, using(crate::proofs::ReadLines::no_item))]
     pub(crate) fn take(&mut self, alloc: Global, line: &[u8]) -> Result<bool, AllocError>
         ensures { StepsTo result (Takes (spot_of self.old) line.now) (spot_of self.new) }
     {

@@ -40,7 +40,6 @@ impl Sides {
     }
 
     /// Adds a side behind the others.
-    #[tactic(auto, using(crate::proofs::RisingSides::no_units_yet, crate::proofs::Ordered::rises_next))]
     pub(crate) fn add(&mut self, key: SideKey, units: u64) -> Result<(), AllocError>
         requires later { end_of (λ side. side_place in_place side.0) 0 self.old
             ≤ side_place in_place key }

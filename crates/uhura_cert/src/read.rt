@@ -1,0 +1,68 @@
+//! Documents that are read.
+ghost use Rattle.std.specs.Prelude.{List, ℕ, [], ◌∷◌, ◌++◌, Err, IfOk, IfErr};
+ghost use Rattle.uhura_text.specs.Lines.{lines};
+ghost use Rattle.uhura_cert.specs.Text.{Reads};
+ghost use Rattle.uhura_cert.specs.Reading.{HasTaken, Advances, Stands, AdvancesOver};
+
+use crate::progress::Progress;
+use crate::{Document, DocumentRefusal};
+use std::alloc::Global;
+use uhura_text::{Fed, Lines};
+
+/// Feeds one byte, and takes the line that it ends.
+fn feed(
+    alloc: Global,
+    cutter: &mut Lines,
+    progress: &mut Progress,
+    byte: u8,
+) -> Result<(), DocumentRefusal>
+    ensures { (bytes : List ℕ) → Stands bytes cutter.old progress.old →
+        AdvancesOver (bytes ++ byte ∷ []) result cutter.new progress.new }
+{
+    match cutter.feed(byte) {
+        Fed::More => Ok(()),
+        Fed::Line | Fed::Long => progress.line(alloc, cutter.line()),
+    }
+}
+
+/// Takes the line that the end of the bytes ends.
+fn finish(
+    alloc: Global,
+    cutter: &mut Lines,
+    progress: &mut Progress,
+) -> Result<(), DocumentRefusal>
+    ensures { (bytes : List ℕ) → Stands bytes cutter.old progress.old →
+        Advances (lines bytes) result progress.new }
+{
+    match cutter.finish() {
+        Fed::More => Ok(()),
+        Fed::Line | Fed::Long => progress.line(alloc, cutter.line()),
+    }
+}
+
+/// Takes all lines of the bytes.
+fn read_lines(alloc: Global, bytes: &[u8]) -> Result<Progress, DocumentRefusal>
+    ensures ok { IfOk result (HasTaken (lines bytes.now)) }
+    ensures err { IfErr result (λ refusal. Reads (lines bytes.now) (Err refusal)) }
+{
+    let mut cutter = Lines::new(alloc).map_err(DocumentRefusal::Memory)?;
+    let mut progress = Progress::new(alloc).map_err(DocumentRefusal::Memory)?;
+    for byte in bytes {
+        feed(alloc, &mut cutter, &mut progress, *byte)?;
+    }
+    finish(alloc, &mut cutter, &mut progress)?;
+    Ok(progress)
+}
+
+/// Reads the text of a document of version 1 or 2. Its requirements have their places as their slots. Bytes that are no
+/// document's text are refused at the first line, counted from 1, up to which no document's text agrees; where they end
+/// too early it is the line behind the last.
+///
+/// A CR at the end of a line is passed over, and the last line may lack its newline. A line of more than 4,096 bytes is
+/// malformed. It takes time in the number of bytes.
+pub fn read_document(alloc: Global, bytes: &[u8]) -> Result<Document, DocumentRefusal>
+    ensures { Reads (lines bytes.now) result }
+{
+    let progress = read_lines(alloc, bytes)?;
+    progress.document()
+}
