@@ -24,3 +24,4 @@ pub mod Taken
 pub mod PrefixNames
 pub mod RisingSides
 pub mod ReadLines
+pub mod LinesTaken
