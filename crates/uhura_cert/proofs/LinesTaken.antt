@@ -8,13 +8,15 @@ use Rattle.uhura_text.specs.declared.lines.Fed.TheVariants.{More, Line, Long}
 use Rattle.uhura_text.proofs.Growing.{lines-nil, lines-whole_append, whole-push_newline, whole-push_other, behind-push_newline, behind-push_other, lines-push_newline, lines-finished, lines-unfinished, shown-take, take-take_push, nil-from_take}
 use Rattle.uhura_cert.specs.declared.document.DocumentRefusal.{DocumentRefusal}
 use Rattle.uhura_cert.specs.declared.document.DocumentRefusal.TheVariants.{Malformed, Memory}
+use Rattle.uhura_cert.specs.declared.document.Leaf.{Leaf}
+use Rattle.uhura_cert.specs.declared.document.Shared.{Shared}
 use Rattle.uhura_cert.specs.declared.progress.Progress.{Progress}
 use Rattle.uhura_cert.specs.Document.{Document}
-use Rattle.uhura_cert.specs.Text.{IsFirstMalformed, Reads}
+use Rattle.uhura_cert.specs.Text.{IsFirstMalformed, IsRead, Reads}
 use Rattle.uhura_cert.specs.Run.{Run}
 use Rattle.uhura_cert.specs.Machine.{Spot, start, done, Takes}
 use Rattle.uhura_cert.specs.OneByOne.{RefusedLinesAreMalformed, LinesEndTooEarly, TakenLinesAreRead}
-use Rattle.uhura_cert.specs.Reading.{spot_of, HasTaken, Advances, Stands, AdvancesOver}
+use Rattle.uhura_cert.specs.Reading.{document_of, spot_of, HasTaken, Advances, Stands, AdvancesOver}
 use Rattle.uhura_cert.proofs.Laws.{run-append}
 
 -- ---- one line
@@ -52,6 +54,12 @@ refused_next law taken line p told has refused count more =
 pub ended_early : LinesEndTooEarly → (taken : List (List ℕ)) (p : Progress) (told : ℕ) → HasTaken taken p → ((d : Document) → spot_of p.reader ≡ done d → ⊥)
     → told ≡ min (p.count + 1) (2 ^ 32 - 1) → Reads taken (Err (Malformed told))
 ended_early law taken p told has unfinished count = (length taken + 1, law taken (spot_of p.reader) has.run unfinished, omega (arith, count, has.count))
+
+-- lines that end with a document, in whatever lists its entries and leaves are
+pub all_read : TakenLinesAreRead → (taken : List (List ℕ)) (p : Progress) (entries : List Shared) (ends : List Leaf) → entries ≡ p.reader.shared.items → ends ≡ p.reader.leaves.items
+    → spot_of p.reader ≡ done (document_of p.reader) → HasTaken taken p
+    → IsRead taken (record { version = p.reader.version; state = p.reader.state; answer = p.reader.answer; shared = entries; leaves = ends })
+all_read law taken p entries ends first second at has = rw (first, second) (law taken (document_of p.reader) (subst (λ s. Run Takes start taken s) at has.run))
 
 -- ---- bytes
 
