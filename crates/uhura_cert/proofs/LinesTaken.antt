@@ -70,7 +70,7 @@ nothing_stands reading p fresh has = record { held = fresh; taken = rw lines-nil
 -- another byte than a newline is held
 pub byte_held : (bytes : List ℕ) (old new : Reading) (p : Progress) (byte : ℕ) → Feeds old byte More new → Stands bytes old p → AdvancesOver (bytes ++ byte ∷ []) (Ok tt) new p
 byte_held bytes old new p byte feeds s = record {
-  held = feeds.1.0 ∙ ap (λ l. take 4097 (l ++ byte ∷ [])) s.held ∙ take-take_push (behind bytes) byte ∙ ap (take 4097) (sym (behind-push_other bytes byte feeds.0));
+  held = feeds.1 ∙ ap (λ l. take 4097 (l ++ byte ∷ [])) s.held ∙ take-take_push (behind bytes) byte ∙ ap (take 4097) (sym (behind-push_other bytes byte feeds.0));
   taken = rw (whole-push_other bytes byte feeds.0) s.taken;
 }
 

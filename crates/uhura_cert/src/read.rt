@@ -1,6 +1,7 @@
 //! Documents that are read.
-ghost use Rattle.std.specs.Prelude.{List, ℕ, [], ◌∷◌, ◌++◌, Err, IfOk, IfErr};
+ghost use Rattle.std.specs.Prelude.{List, ℕ, [], ◌∷◌, ◌++◌, Err, OnOk, IfErr};
 ghost use Rattle.uhura_text.specs.Lines.{lines};
+ghost use Rattle.uhura_text.specs.Reading.{IsFresh};
 ghost use Rattle.uhura_cert.specs.Text.{Reads};
 ghost use Rattle.uhura_cert.specs.Reading.{HasTaken, Advances, Stands, AdvancesOver};
 
@@ -41,17 +42,23 @@ fn finish(
 }
 
 /// Takes all lines of the bytes.
-fn read_lines(alloc: Global, bytes: &[u8]) -> Result<Progress, DocumentRefusal>
-    ensures ok { IfOk result (HasTaken (lines bytes.now)) }
+fn take_lines(
+    alloc: Global,
+    cutter: &mut Lines,
+    progress: &mut Progress,
+    bytes: &[u8],
+) -> Result<(), DocumentRefusal>
+    requires fresh { IsFresh cutter.old }
+    requires begins { HasTaken [] progress.old }
+    ensures ok { OnOk result (HasTaken (lines bytes.now) progress.new) }
     ensures err { IfErr result (λ refusal. Reads (lines bytes.now) (Err refusal)) }
 {
-    let mut cutter = Lines::new(alloc).map_err(DocumentRefusal::Memory)?;
-    let mut progress = Progress::new(alloc).map_err(DocumentRefusal::Memory)?;
     for byte in bytes {
-        feed(alloc, &mut cutter, &mut progress, *byte)?;
+        if let Err(refusal) = feed(alloc, cutter, progress, *byte) {
+            return Err(refusal);
+        }
     }
-    finish(alloc, &mut cutter, &mut progress)?;
-    Ok(progress)
+    finish(alloc, cutter, progress)
 }
 
 /// Reads the text of a document of version 1 or 2. Its requirements have their places as their slots. Bytes that are no
@@ -63,6 +70,8 @@ fn read_lines(alloc: Global, bytes: &[u8]) -> Result<Progress, DocumentRefusal>
 pub fn read_document(alloc: Global, bytes: &[u8]) -> Result<Document, DocumentRefusal>
     ensures { Reads (lines bytes.now) result }
 {
-    let progress = read_lines(alloc, bytes)?;
+    let mut cutter = Lines::new(alloc).map_err(DocumentRefusal::Memory)?;
+    let mut progress = Progress::new(alloc).map_err(DocumentRefusal::Memory)?;
+    take_lines(alloc, &mut cutter, &mut progress, bytes)?;
     progress.document()
 }
