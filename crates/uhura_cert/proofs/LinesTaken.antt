@@ -1,5 +1,6 @@
 -- How lines that are taken go on: by one more line, by a byte, and at the end of the bytes.
 use Rattle.std.proofs.Common.{◌≡◌, ◌≢◌, ℕ, ◌+◌, ◌-◌, ◌^◌, ◌<◌, min, ◌⊎◌, inl, inr, List, [], ◌∷◌, ◌++◌, length, take, drop, get_or, Option, Some, Result, Ok, Err, refl, sym, ap, ◌∙◌, subst, arith, append_assoc, append-nil, length-append}
+use Rattle.std.specs.Prelude.{IfErr}
 use Rattle.std.proofs.lemmas.List.{take_at, take_more, take-append-drop}
 use Rattle.uhura_text.specs.Lines.{lines, whole, behind, shown}
 use Rattle.uhura_text.specs.Reading.{Reading, HandsOver, Feeds, Finishes}
@@ -151,6 +152,7 @@ byte_refused bytes i reading p refusal within refused =
     let all : take i bytes ++ get_or bytes i 0 ∷ [] ++ drop (i + 1) bytes ≡ bytes = ap (λ l. l ++ drop (i + 1) bytes) (sym (take_more bytes i 0 within)) ∙ take-append-drop (i + 1) bytes in
     subst (λ l. Reads (lines l) (Err refusal)) all (refused (drop (i + 1) bytes))
 
--- the end at which a line was refused
-pub end_refused : (bytes : List ℕ) (p : Progress) (refusal : DocumentRefusal) → Advances (lines bytes) (Err refusal) p → Reads (lines bytes) (Err refusal)
-end_refused bytes p refusal refused = subst (λ ls. Reads ls (Err refusal)) (append-nil (lines bytes)) (refused [])
+-- the end, where a line may be refused
+pub end_refused : (bytes : List ℕ) (p : Progress) (result : Result (Unit {0}) DocumentRefusal) → Advances (lines bytes) result p → IfErr result (λ refusal. Reads (lines bytes) (Err refusal))
+end_refused bytes p (Ok _) goes = tt
+end_refused bytes p (Err refusal) goes = subst (λ ls. Reads ls (Err refusal)) (append-nil (lines bytes)) (goes [])

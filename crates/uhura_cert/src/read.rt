@@ -70,8 +70,10 @@ fn take_lines(
 pub fn read_document(alloc: Global, bytes: &[u8]) -> Result<Document, DocumentRefusal>
     ensures { Reads (lines bytes.now) result }
 {
-    let mut cutter = Lines::new(alloc).map_err(DocumentRefusal::Memory)?;
-    let mut progress = Progress::new(alloc).map_err(DocumentRefusal::Memory)?;
-    take_lines(alloc, &mut cutter, &mut progress, bytes)?;
+    let mut cutter = Lines::new(alloc)?;
+    let mut progress = Progress::new(alloc)?;
+    if let Err(refusal) = take_lines(alloc, &mut cutter, &mut progress, bytes) {
+        return Err(refusal);
+    }
     progress.document()
 }
