@@ -1,5 +1,5 @@
 -- How lines that are taken go on: by one more line, by a byte, and at the end of the bytes.
-use Rattle.std.proofs.Common.{◌≡◌, ◌≢◌, ℕ, ◌+◌, ◌-◌, ◌^◌, ◌<◌, min, ◌⊎◌, inl, inr, List, [], ◌∷◌, ◌++◌, length, take, drop, get_or, Option, Some, Result, Ok, Err, refl, sym, ap, ◌∙◌, subst, arith, append_assoc, append-nil, length-append}
+use Rattle.std.proofs.Common.{◌≡◌, ◌≢◌, ℕ, ◌+◌, ◌-◌, ◌^◌, ◌<◌, min, ◌⊎◌, inl, inr, List, [], ◌∷◌, ◌++◌, length, take, drop, get_or, Some, Result, Ok, Err, refl, sym, ap, ◌∙◌, subst, arith, append_assoc, append-nil, length-append}
 use Rattle.std.specs.Prelude.{IfErr}
 use Rattle.std.proofs.lemmas.List.{take_at, take_more, take-append-drop}
 use Rattle.uhura_text.specs.Lines.{lines, whole, behind, shown}
@@ -8,7 +8,7 @@ use Rattle.uhura_text.specs.declared.lines.Fed.{Fed}
 use Rattle.uhura_text.specs.declared.lines.Fed.TheVariants.{More, Line, Long}
 use Rattle.uhura_text.proofs.Growing.{lines-nil, lines-whole_append, whole-push_newline, whole-push_other, behind-push_newline, behind-push_other, lines-push_newline, lines-finished, lines-unfinished, shown-take, take-take_push, nil-from_take}
 use Rattle.uhura_cert.specs.declared.document.DocumentRefusal.{DocumentRefusal}
-use Rattle.uhura_cert.specs.declared.document.DocumentRefusal.TheVariants.{Malformed, Memory}
+use Rattle.uhura_cert.specs.declared.document.DocumentRefusal.TheVariants.{Malformed}
 use Rattle.uhura_cert.specs.declared.document.Leaf.{Leaf}
 use Rattle.uhura_cert.specs.declared.document.Shared.{Shared}
 use Rattle.uhura_cert.specs.declared.progress.Progress.{Progress}

@@ -1,5 +1,5 @@
 -- A line is taken by its item.
-use Rattle.std.proofs.Common.{◌≡◌, ℕ, Bool, true, false, List, Option, None, Result, Ok, Err, sym, ◌∙◌, subst}
+use Rattle.std.proofs.Common.{◌≡◌, ℕ, Bool, true, false, List, Result, Ok, Err, sym, ◌∙◌, subst}
 use Rattle.std.specs.declared.alloc.AllocError.{AllocError}
 use Rattle.uhura_item.specs.declared.item.Item.{Item}
 use Rattle.uhura_item.specs.Item.{spell, IsItem}

@@ -27,11 +27,7 @@ fn feed(
 }
 
 /// Takes the line that the end of the bytes ends.
-fn finish(
-    alloc: Global,
-    cutter: &mut Lines,
-    progress: &mut Progress,
-) -> Result<(), DocumentRefusal>
+fn finish(alloc: Global, cutter: &mut Lines, progress: &mut Progress) -> Result<(), DocumentRefusal>
     ensures { (bytes : List ℕ) → Stands bytes cutter.old progress.old →
         Advances (lines bytes) result progress.new }
 {

@@ -57,7 +57,7 @@ impl Reader {
         requires { IsItem item.now }
         ensures { StepsTo result
             (FromSides self.old.version self.old.state self.old.cost self.old.picks.items
-                self.old.sides item.now)
+            self.old.sides item.now)
             (spot_of self.new) }
     {
         let Item::Relax(name, side, units) = item else {
@@ -77,9 +77,9 @@ impl Reader {
     pub(crate) fn in_times(&mut self, alloc: Global, item: &Item) -> Result<bool, AllocError>
         ensures { StepsTo result
             (FromTimes self.old.version self.old.state
-                (proposal_of self.old.cost self.old.picks.items self.old.sides
-                    self.old.times.items)
-                item.now)
+            (proposal_of self.old.cost self.old.picks.items self.old.sides
+            self.old.times.items)
+            item.now)
             (spot_of self.new) }
     {
         match item {
@@ -93,9 +93,9 @@ impl Reader {
     fn take_time(&mut self, event: Name, time: u64) -> Result<bool, AllocError>
         ensures { StepsTo result
             (FromTimes self.old.version self.old.state
-                (proposal_of self.old.cost self.old.picks.items self.old.sides
-                    self.old.times.items)
-                (Item.At event time))
+            (proposal_of self.old.cost self.old.picks.items self.old.sides
+            self.old.times.items)
+            (Item.At event time))
             (spot_of self.new) }
     {
         if !is_next_time(&self.state.plan, self.times.as_slice(), event) {
@@ -110,9 +110,9 @@ impl Reader {
     fn end_proposal(&mut self, alloc: Global) -> Result<bool, AllocError>
         ensures { StepsTo result
             (FromTimes self.old.version self.old.state
-                (proposal_of self.old.cost self.old.picks.items self.old.sides
-                    self.old.times.items)
-                Item.End)
+            (proposal_of self.old.cost self.old.picks.items self.old.sides
+            self.old.times.items)
+            Item.End)
             (spot_of self.new) }
     {
         if !are_all_times(&self.state.plan, self.times.as_slice()) {
