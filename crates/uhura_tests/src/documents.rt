@@ -166,7 +166,11 @@ fn is_refused_at_the_first_line_that_no_document_has(rt: HostRuntime) -> Result<
         (10, "at b 0", 10),
         (13, "leaf left left", 13),
         (14, "denied v", 14),
-        (17, "units require near upper loose 1\nunits require near upper loose 1", 18),
+        (
+            17,
+            "units require near upper loose 1\nunits require near upper loose 1",
+            18,
+        ),
         (18, "units require near upper steep 1", 0),
         (18, "units require near lower firm 1", 18),
         (14, "flow\nunits require near upper loose 1", 0),
@@ -178,15 +182,17 @@ fn is_refused_at_the_first_line_that_no_document_has(rt: HostRuntime) -> Result<
         (19, "end\n\r", 20),
     ] {
         let text = changed(alloc, FIRST.as_slice(), at, with)?;
-        assert_eq!(rt; refused_at(alloc, text.as_slice())?, line, "{with} at line {at}");
+        assert_eq!(rt;
+            refused_at(alloc, text.as_slice())?,
+            line,
+            "{with} at line {at}"
+        );
     }
     Ok(())
 }
 
 #[test]
-fn is_refused_in_version_2_where_no_reason_can_be_named(
-    rt: HostRuntime,
-) -> Result<(), AllocError> {
+fn is_refused_in_version_2_where_no_reason_can_be_named(rt: HostRuntime) -> Result<(), AllocError> {
     let alloc = rt.alloc();
     for (at, with, line) in [
         (18, "use 1", 0),
@@ -198,7 +204,11 @@ fn is_refused_in_version_2_where_no_reason_can_be_named(
         (13, "leaf left", 13),
     ] {
         let text = changed(alloc, SECOND.as_slice(), at, with)?;
-        assert_eq!(rt; refused_at(alloc, text.as_slice())?, line, "{with} at line {at}");
+        assert_eq!(rt;
+            refused_at(alloc, text.as_slice())?,
+            line,
+            "{with} at line {at}"
+        );
     }
     Ok(())
 }
