@@ -8,3 +8,4 @@ pub mod Machine
 pub mod OneByOne
 pub mod Taking
 pub mod Reading
+pub mod ReadsBack
