@@ -18,7 +18,7 @@ use Rattle.uhura_cert.specs.Run.{Run}
 use Rattle.uhura_cert.specs.Machine.{Spot, start, done, Takes}
 use Rattle.uhura_cert.specs.OneByOne.{RefusedLinesAreMalformed, LinesEndTooEarly, TakenLinesAreRead}
 use Rattle.uhura_cert.specs.Reading.{document_of, spot_of, HasTaken, Advances, Stands, AdvancesOver}
-use Rattle.uhura_cert.proofs.Laws.{run-append}
+use Rattle.uhura_cert.proofs.RunLaws.{run-append}
 
 -- ---- one line
 
