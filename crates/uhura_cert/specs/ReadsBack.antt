@@ -1,5 +1,5 @@
 -- What is read of the text of a document: the same document up to the slots of requirements.
-use Rattle.std.specs.Prelude.{◌≡◌, ℕ, List, map, Option, option_map, Result, Ok, Err}
+use Rattle.std.specs.Prelude.{◌≡◌, ℕ, List, map, option_map, Result, Ok, Err}
 use Rattle.uhura_plan.specs.declared.key.EdgeKey.{EdgeKey}
 use Rattle.uhura_plan.specs.declared.key.EdgeKey.TheVariants as key
 use Rattle.uhura_plan.specs.declared.key.Item.{Item as Thing}
@@ -16,7 +16,7 @@ use Rattle.uhura_cert.specs.declared.document.Leaf.{Leaf}
 use Rattle.uhura_cert.specs.declared.document.DocumentRefusal.{DocumentRefusal}
 use Rattle.uhura_cert.specs.declared.document.DocumentRefusal.TheVariants.{Malformed, Memory}
 use Rattle.uhura_cert.specs.Order.{place_in}
-use Rattle.uhura_cert.specs.Document.{Document, IsDocument}
+use Rattle.uhura_cert.specs.Document.{Document}
 use Rattle.uhura_cert.specs.Text.{TextOf, Reads}
 
 -- a requirement by its place in place of its slot
