@@ -50,8 +50,8 @@ const SECOND: [&str; 21] = [
     "end",
 ];
 
-/// A state in which nothing is allowed, with a walk, a denial and a duration.
-const NOTHING: [&str; 14] = [
+/// A walk through a duration, a denial and a cap, in version 2, with no leaf.
+const WALK: [&str; 14] = [
     "document 2",
     "event a",
     "uncertain drive a home 20 30 lower 7 upper 5",
@@ -65,6 +65,22 @@ const NOTHING: [&str; 14] = [
     "edge require near upper firm",
     "edge uncertain drive order",
     "edge uncertain drive lower firm",
+    "end",
+];
+
+/// Two requirements that clash, in version 1.
+const CLASH: [&str; 12] = [
+    "document 1",
+    "event a",
+    "event b",
+    "require early a b - 5",
+    "require late a b 6 -",
+    "answer",
+    "none",
+    "leaf",
+    "stuck",
+    "edge require early upper firm",
+    "edge require late lower firm",
     "end",
 ];
 
@@ -110,7 +126,12 @@ fn written_again(alloc: Global, text: &[u8]) -> Result<Vec<u8>, AllocError> {
 #[test]
 fn is_written_as_it_was_read(rt: HostRuntime) -> Result<(), AllocError> {
     let alloc = rt.alloc();
-    for lines in [FIRST.as_slice(), SECOND.as_slice(), NOTHING.as_slice()] {
+    for lines in [
+        FIRST.as_slice(),
+        SECOND.as_slice(),
+        CLASH.as_slice(),
+        WALK.as_slice(),
+    ] {
         let text = text_of(alloc, lines, "\n")?;
         assert!(rt; written_again(alloc, text.as_slice())?.as_slice() == text.as_slice());
         // A CR before each newline changes nothing.
@@ -123,7 +144,12 @@ fn is_written_as_it_was_read(rt: HostRuntime) -> Result<(), AllocError> {
 #[test]
 fn is_refused_where_it_is_cut(rt: HostRuntime) -> Result<(), AllocError> {
     let alloc = rt.alloc();
-    for lines in [FIRST.as_slice(), SECOND.as_slice(), NOTHING.as_slice()] {
+    for lines in [
+        FIRST.as_slice(),
+        SECOND.as_slice(),
+        CLASH.as_slice(),
+        WALK.as_slice(),
+    ] {
         for count in 0..lines.len() {
             let text = text_of(alloc, &lines[..count], "\n")?;
             let line = refused_at(alloc, text.as_slice())?;
@@ -134,7 +160,7 @@ fn is_refused_where_it_is_cut(rt: HostRuntime) -> Result<(), AllocError> {
 }
 
 #[test]
-fn is_refused_at_the_first_line_that_no_document_has(rt: HostRuntime) -> Result<(), AllocError> {
+fn is_refused_at_the_first_malformed_line(rt: HostRuntime) -> Result<(), AllocError> {
     let alloc = rt.alloc();
     for (at, with, line) in [
         (1, "document 3", 1),
@@ -192,7 +218,7 @@ fn is_refused_at_the_first_line_that_no_document_has(rt: HostRuntime) -> Result<
 }
 
 #[test]
-fn is_refused_in_version_2_where_no_reason_can_be_named(rt: HostRuntime) -> Result<(), AllocError> {
+fn is_refused_by_the_rules_of_version_2(rt: HostRuntime) -> Result<(), AllocError> {
     let alloc = rt.alloc();
     for (at, with, line) in [
         (18, "use 1", 0),
