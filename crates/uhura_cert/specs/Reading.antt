@@ -6,6 +6,7 @@ use Rattle.uhura_text.specs.declared.lines.TheConstants.{LINE_LIMIT}
 use Rattle.uhura_text.specs.Lines.{lines, whole, behind}
 use Rattle.uhura_text.specs.Reading.{Reading}
 use Rattle.uhura_cert.specs.declared.document.DocumentRefusal.{DocumentRefusal}
+use Rattle.uhura_cert.specs.declared.document.Proposal.{Proposal}
 use Rattle.uhura_cert.specs.declared.place.Place.{Place}
 use Rattle.uhura_cert.specs.declared.place.Place.TheVariants as place
 use Rattle.uhura_cert.specs.declared.reader.Reader.{Reader}
@@ -25,6 +26,10 @@ document_of r = record {
   leaves = r.leaves.items;
 }
 
+-- the proposal so far
+abbrev pub draft_of : Reader → Proposal
+draft_of r = proposal_of r.cost r.picks.items r.sides r.times.items
+
 -- the spot of this place
 abbrev pub spot_at : Place → Reader → Spot
 spot_at place.Start r = start
@@ -32,8 +37,7 @@ spot_at place.Script r = script r.version r.state
 spot_at place.Question r = question r.version r.state
 spot_at place.Picks r = picks r.version r.state r.cost r.picks.items
 spot_at place.Sides r = sides r.version r.state r.cost r.picks.items r.sides
-spot_at place.Times r =
-    times r.version r.state (proposal_of r.cost r.picks.items r.sides r.times.items)
+spot_at place.Times r = times r.version r.state (draft_of r)
 spot_at place.Entries r = entries (document_of r)
 spot_at place.EntryFlow r = entry_flow (document_of r) r.units.items
 spot_at place.EntryWalk r = entry_walk (document_of r) r.edges.items
@@ -69,6 +73,8 @@ pub record Stands (bytes : List ℕ) (reading : Reading) (p : Progress) : Type 0
   pub taken : HasTaken (lines (whole bytes)) p
 
 -- the same of bytes, whatever follows where a line is refused
-abbrev pub AdvancesOver : List ℕ → Result ⊤ DocumentRefusal → Reading → Progress → Type 0
+abbrev pub AdvancesOver : List ℕ → Result ⊤ DocumentRefusal → Reading → Progress
+    → Type 0
 AdvancesOver bytes (Ok _) reading p = Stands bytes reading p
-AdvancesOver bytes (Err refusal) reading p = (more : List ℕ) → Reads (lines (bytes ++ more)) (Err refusal)
+AdvancesOver bytes (Err refusal) reading p =
+    (more : List ℕ) → Reads (lines (bytes ++ more)) (Err refusal)

@@ -81,5 +81,6 @@ IsReadAs d (Err (Memory error)) = Unit {0}
 
 -- what is read of the text of a document is this document
 abbrev pub TextsReadBack : Type 0
-TextsReadBack = (d : Document) (lines : List (List ℕ)) (result : Result Document DocumentRefusal) →
+TextsReadBack = (d : Document) (lines : List (List ℕ))
+    (result : Result Document DocumentRefusal) →
     TextOf d lines → Reads lines result → IsReadAs d result

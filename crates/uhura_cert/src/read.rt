@@ -57,12 +57,12 @@ fn take_lines(
     finish(alloc, cutter, progress)
 }
 
-/// Reads the text of a document of version 1 or 2. Its requirements have their places as their slots. Bytes that are no
-/// document's text are refused at the first line, counted from 1, up to which no document's text agrees; where they end
-/// too early it is the line behind the last.
+/// Reads the text of a document of version 1 or 2, whose requirements then have their places as their slots. Bytes
+/// that are no document's text are refused at the first line, counted from 1, up to which no document's text agrees;
+/// where they end too early it is the line behind the last.
 ///
-/// A CR at the end of a line is passed over, and the last line may lack its newline. A line of more than 4,096 bytes is
-/// malformed. It takes time in the number of bytes.
+/// A CR at the end of a line is passed over, and the last line needs no newline. A line of more than 4,096 bytes is
+/// malformed. The time taken is in proportion to the bytes.
 pub fn read_document(alloc: Global, bytes: &[u8]) -> Result<Document, DocumentRefusal>
     ensures { Reads (lines bytes.now) result }
 {

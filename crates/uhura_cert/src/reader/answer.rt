@@ -1,8 +1,8 @@
 //! The answer of a document, as it is read.
 ghost use Rattle.std.specs.Prelude.{◌≡◌, true, false, length, slice_get, Some};
 ghost use Rattle.uhura_item.specs.Item.{IsItem};
-ghost use Rattle.uhura_cert.specs.Machine.{proposal_of, answered, entries, FromPicks, FromSides, FromTimes};
-ghost use Rattle.uhura_cert.specs.Reading.{spot_of, StepsTo};
+ghost use Rattle.uhura_cert.specs.Machine.{answered, entries, FromPicks, FromSides, FromTimes};
+ghost use Rattle.uhura_cert.specs.Reading.{draft_of, spot_of, StepsTo};
 
 use super::Reader;
 use crate::next::{is_next_event, next_pick, next_side};
@@ -76,10 +76,7 @@ impl Reader {
     /// Another event's time, or the end of the proposal.
     pub(crate) fn in_times(&mut self, alloc: Global, item: &Item) -> Result<bool, AllocError>
         ensures { StepsTo result
-            (FromTimes self.old.version self.old.state
-            (proposal_of self.old.cost self.old.picks.items self.old.sides
-            self.old.times.items)
-            item.now)
+            (FromTimes self.old.version self.old.state (draft_of self.old) item.now)
             (spot_of self.new) }
     {
         match item {
@@ -92,10 +89,7 @@ impl Reader {
     /// The time of an event, where it comes next.
     fn take_time(&mut self, event: Name, time: u64) -> Result<bool, AllocError>
         ensures { StepsTo result
-            (FromTimes self.old.version self.old.state
-            (proposal_of self.old.cost self.old.picks.items self.old.sides
-            self.old.times.items)
-            (Item.At event time))
+            (FromTimes self.old.version self.old.state (draft_of self.old) (Item.At event time))
             (spot_of self.new) }
     {
         if !is_next_time(&self.state.plan, self.times.as_slice(), event) {
@@ -109,10 +103,7 @@ impl Reader {
     /// The end of the proposal, where each event has its time.
     fn end_proposal(&mut self, alloc: Global) -> Result<bool, AllocError>
         ensures { StepsTo result
-            (FromTimes self.old.version self.old.state
-            (proposal_of self.old.cost self.old.picks.items self.old.sides
-            self.old.times.items)
-            Item.End)
+            (FromTimes self.old.version self.old.state (draft_of self.old) Item.End)
             (spot_of self.new) }
     {
         if !are_all_times(&self.state.plan, self.times.as_slice()) {

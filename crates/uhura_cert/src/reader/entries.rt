@@ -53,8 +53,8 @@ impl Reader {
 
     /// Another edge of a circulation, or what may follow it.
     pub(crate) fn in_entry_flow(&mut self, alloc: Global, item: &Item) -> Result<bool, AllocError>
-        ensures { StepsTo result (FromEntryFlow (document_of self.old) self.old.units.items item.now)
-            (spot_of self.new) }
+        ensures { StepsTo result
+            (FromEntryFlow (document_of self.old) self.old.units.items item.now) (spot_of self.new) }
     {
         let Item::Units(name, units) = item else {
             let edges = mem::replace(&mut self.units, Vec::new(alloc));
@@ -71,8 +71,8 @@ impl Reader {
 
     /// Another edge of a walk, or what may follow it.
     pub(crate) fn in_entry_walk(&mut self, alloc: Global, item: &Item) -> Result<bool, AllocError>
-        ensures { StepsTo result (FromEntryWalk (document_of self.old) self.old.edges.items item.now)
-            (spot_of self.new) }
+        ensures { StepsTo result
+            (FromEntryWalk (document_of self.old) self.old.edges.items item.now) (spot_of self.new) }
     {
         let Item::Edge(name) = item else {
             let edges = mem::replace(&mut self.edges, Vec::new(alloc));

@@ -137,7 +137,8 @@ impl Reader {
     /// Another edge of a leaf's circulation, or what may follow it.
     pub(crate) fn in_leaf_flow(&mut self, alloc: Global, item: &Item) -> Result<bool, AllocError>
         ensures { StepsTo result
-            (FromLeafFlow (document_of self.old) self.old.prefix.items self.old.units.items item.now)
+            (FromLeafFlow (document_of self.old) self.old.prefix.items self.old.units.items
+            item.now)
             (spot_of self.new) }
     {
         let Item::Units(name, units) = item else {
@@ -156,7 +157,8 @@ impl Reader {
     /// Another edge of a leaf's walk, or what may follow it.
     pub(crate) fn in_leaf_walk(&mut self, alloc: Global, item: &Item) -> Result<bool, AllocError>
         ensures { StepsTo result
-            (FromLeafWalk (document_of self.old) self.old.prefix.items self.old.edges.items item.now)
+            (FromLeafWalk (document_of self.old) self.old.prefix.items self.old.edges.items
+            item.now)
             (spot_of self.new) }
     {
         let Item::Edge(name) = item else {
