@@ -12,7 +12,6 @@ mod lines;
 mod picks;
 mod refusal;
 mod room;
-mod stub;
 mod units;
 
 pub use active::{is_active_edge, is_active_item};
@@ -20,6 +19,5 @@ pub use denied::is_denied_by;
 pub use lines::{line_after, proposal_line, side_line};
 pub use picks::picked_branch;
 pub use refusal::{CheckRefusal, Code};
-pub use stub::check;
 pub use room::{first_without_room, has_room};
 pub use units::{first_not_carried, may_carry};
