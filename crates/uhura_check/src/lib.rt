@@ -7,6 +7,7 @@
 mod active;
 mod denied;
 pub mod examples;
+mod failure;
 pub mod laws;
 mod lines;
 mod picks;
