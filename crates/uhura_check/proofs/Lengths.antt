@@ -9,7 +9,8 @@ use Rattle.uhura_command.specs.Script.{uncertain_command, choice_command, requir
 use Rattle.uhura_item.specs.declared.item.Item.{Item}
 use Rattle.uhura_item.specs.declared.item.Item.TheVariants as item
 use Rattle.uhura_cert.specs.Document.{Document}
-use Rattle.uhura_cert.specs.Items.{to_version, to_script, to_question}
+use Rattle.uhura_cert.specs.declared.document.Proposal.{Proposal as Stated}
+use Rattle.uhura_cert.specs.Items.{to_version, to_script, to_question, to_picks, pick_item}
 use Rattle.uhura_check.specs.Table.{line_behind}
 
 -- a line for each thing of a plan
@@ -41,3 +42,7 @@ pub question-line : (d : Document) → line_behind (to_question d) ≡ length (c
 question-line d =
     let script : List Item = map (λ c. item.Command c) (commands_of d.state) in
     omega (arith, length-append (to_script d) (item.Answer ∷ []), length-append (to_version d) script, length-map (commands_of d.state) (λ (c : Command). item.Command c))
+
+-- the sides stand behind the line of the cost and those of the picks
+pub sides-line : (d : Document) (p : Stated) → line_behind (to_question d ++ to_picks d.state.plan p) ≡ length (commands_of d.state) + 3 + 1 + length p.picks
+sides-line d p = omega (arith, length-append (to_question d) (to_picks d.state.plan p), question-line d, length-map p.picks (pick_item d.state.plan))

@@ -9,7 +9,10 @@ pub mod Confirming
 pub mod Branches
 pub mod Lengths
 pub mod Failing
-pub mod PickFailure
 pub mod Rooms
 pub mod Firsts
-pub mod RoomFailure
+pub mod Telling
+pub mod Costs
+pub mod Meetings
+pub mod Proposals
+pub mod Leaving

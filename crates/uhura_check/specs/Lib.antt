@@ -5,3 +5,6 @@ pub mod Failure
 pub mod Examples
 pub mod Picks
 pub mod Firsts
+pub mod Units
+pub mod Walked
+pub mod Entries

@@ -4,7 +4,7 @@ ghost use Rattle.uhura_worst.specs.Cost.{second_cost, price_of, narrowings_cost,
 ghost use Rattle.uhura_relax.specs.Schedule.{proposal_with};
 ghost use Rattle.uhura_check.specs.Units.{with_units, loosened_cost, narrowed_cost};
 
-use crate::sides::{requirement_side, duration_side};
+use crate::keys::{requirement_side, duration_side};
 use uhura_choice::{Branch, picked_cost};
 use uhura_plan::{Plan, Rate, Requirement, Side, Uncertain};
 use uhura_worst::Loosening;
@@ -25,9 +25,8 @@ fn requirements_cost(plan: &Plan, loosening: &Loosening) -> u128
 {
     let mut sum = 0;
     for place in 0..plan.requirements() {
-        if let Some(requirement) = plan.requirement(place) {
-            sum += requirement_cost(requirement, loosening);
-        }
+        let requirement = plan.requirement(place).unwrap();
+        sum += requirement_cost(requirement, loosening);
     }
     sum
 }
@@ -39,9 +38,8 @@ fn durations_cost(plan: &Plan, loosening: &Loosening) -> u128
 {
     let mut sum = 0;
     for place in 0..plan.uncertains() {
-        if let Some(uncertain) = plan.uncertain(place) {
-            sum += duration_cost(place, uncertain, loosening);
-        }
+        let uncertain = plan.uncertain(place).unwrap();
+        sum += duration_cost(place, uncertain, loosening);
     }
     sum
 }

@@ -5,19 +5,33 @@
 #![tactic(auto)]
 
 mod active;
+mod checking;
+mod cost;
+mod covering;
 mod denied;
+mod entries;
 pub mod examples;
 mod failure;
+mod keys;
 pub mod laws;
+mod leaves;
 mod lines;
+mod meeting;
+mod parts;
 mod picks;
+mod reasons;
 mod refusal;
 mod room;
+mod stating;
 mod units;
 
+pub use checking::check;
 pub use active::{is_active_edge, is_active_item};
 pub use denied::is_denied_by;
-pub use lines::{line_after, proposal_line, side_line};
+pub use cost::proposal_cost;
+pub use failure::Failure;
+pub use lines::{line_after, proposal_line, requirement_line, shared_line, side_line};
+pub use meeting::first_not_met;
 pub use picks::picked_branch;
 pub use refusal::{CheckRefusal, Code};
 pub use room::{first_without_room, has_room};

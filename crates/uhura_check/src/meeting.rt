@@ -11,7 +11,7 @@ ghost use Rattle.uhura_check.specs.Conditions.{IsMet};
 ghost use Rattle.uhura_check.specs.Firsts.{IsFirstNot};
 ghost use Rattle.uhura_check.specs.Units.{earliest_of, latest_of, IsMetAtExtremes};
 
-use crate::sides::{duration_side, requirement_side};
+use crate::keys::{duration_side, requirement_side};
 use uhura_choice::{Branch, holds};
 use uhura_plan::{EventRef, Plan, Requirement, Side};
 use uhura_worst::Loosening;
