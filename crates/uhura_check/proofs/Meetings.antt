@@ -1,9 +1,11 @@
 -- A requirement is met whatever the durations left exactly where it is met at the extremes.
 use Rattle.std.proofs.Common.{◌≡◌, ℕ, ◌<◌, Bool, true, false, true≢false, List, [], ◌∷◌, length, Option, None, Some, refl, sym, ap, ◌∙◌, subst, arith, Contains, get_or}
-use Rattle.std.specs.Prelude.{ℤ, pos, neg_ℤ, ◌+ℤ◌, ◌-ℤ◌, ◌*ℤ◌, ◌≤ℤ◌, IsTrue, IfSome, All, unwrap_or, option_map, slice_get, not, ◌||◌}
+use Rattle.std.specs.Prelude.{ℤ, pos, neg_ℤ, ◌+ℤ◌, ◌-ℤ◌, ◌*ℤ◌, ◌≤ℤ◌, IsTrue, IfSome, All, unwrap_or, option_map, slice_get, bytes_eq}
 use Rattle.std.specs.Option.{option_map_or}
 use Rattle.std.specs.Bool.{Decides}
+use Rattle.std.specs.Int.Signed.{le_z}
 use Rattle.std.proofs.lemmas.Int.{ints}
+use Rattle.std.proofs.lemmas.Map.Keys.{IsDistinct-from_apart}
 use Rattle.std.proofs.lemmas.List.Elements.{All-nil, All-cons}
 use Rattle.uhura_plan.specs.declared.key.Side.TheVariants.{Lower, Upper}
 use Rattle.uhura_plan.specs.declared.key.EventRef.{EventRef}
@@ -45,8 +47,8 @@ alone-sound plan r sound is = record {
     apart = sound.distinct.apart;
     uncertains = sound.distinct.uncertains;
     choices = sound.distinct.choices;
-    requirements = λ i j d less below. absurd (omega arith);
-    slots = λ i j d less below. absurd (omega arith);
+    requirements = IsDistinct-from_apart bytes_eq (r.name ∷ []) (λ i j d less below. absurd (omega (arith, less, below)));
+    slots = λ i j d less below. absurd (omega (arith, less, below));
   };
   events = sound.events;
   uncertains = sound.uncertains;
@@ -165,3 +167,25 @@ module _ (plan : Lists) (sound : IsSound plan) (q : Proposal) where
   -- and else it is met
   pub inactive-decided : (r : Requirement) (at : Bool) → at ≡ true → holds r.guard q.branch ≡ false → Decides at (IsMet plan q r)
   inactive-decided r at so inactive = (λ same active. absurd (true≢false (sym active ∙ inactive)), λ met. so)
+
+-- a comparison decides
+pub le-decided : (a b : ℤ) → Decides (le_z a b) (a ≤ℤ b)
+le-decided a b = by (le_z a b) refl
+  where
+    by : (t : Bool) → le_z a b ≡ t → Decides t (a ≤ℤ b)
+    by true is = (λ so. omega (arith, ints, is), λ at. refl)
+    by false is = (λ so. absurd (true≢false (sym so)), λ at. absurd (omega (arith, ints, is, at)))
+
+-- one side at the extremes
+module _ (plan : Lists) (q : Proposal) (r : Requirement) (so : Bool) (given : ℤ) (units : ℕ) (from to : ℤ) where
+  pub long-decided : (least : ℤ) → r.lower.bound ≡ Some least → given ≡ least → units ≡ loosened q Lower r → from ≡ latest_of plan q r.from → to ≡ earliest_of plan q r.to → Decides so ((given -ℤ pos units) ≤ℤ (to -ℤ from)) →
+      Decides so (IfSome r.lower.bound (λ (least : ℤ). (least -ℤ pos (loosened q Lower r)) ≤ℤ (earliest_of plan q r.to -ℤ latest_of plan q r.from)))
+  long-decided least is same own late early decides =
+      subst (λ (o : Option ℤ). Decides so (IfSome o (λ (least : ℤ). (least -ℤ pos (loosened q Lower r)) ≤ℤ (earliest_of plan q r.to -ℤ latest_of plan q r.from)))) (sym is)
+      (λ holding. let apart : (given -ℤ pos units) ≤ℤ (to -ℤ from) = decides.0 holding in omega (arith, ints, apart, same, own, late, early), λ apart. decides.1 (omega (arith, ints, apart, same, own, late, early)))
+
+  pub short-decided : (most : ℤ) → r.upper.bound ≡ Some most → given ≡ most → units ≡ loosened q Upper r → from ≡ earliest_of plan q r.from → to ≡ latest_of plan q r.to → Decides so ((to -ℤ from) ≤ℤ (given +ℤ pos units)) →
+      Decides so (IfSome r.upper.bound (λ (most : ℤ). (latest_of plan q r.to -ℤ earliest_of plan q r.from) ≤ℤ (most +ℤ pos (loosened q Upper r))))
+  short-decided most is same own early late decides =
+      subst (λ (o : Option ℤ). Decides so (IfSome o (λ (most : ℤ). (latest_of plan q r.to -ℤ earliest_of plan q r.from) ≤ℤ (most +ℤ pos (loosened q Upper r))))) (sym is)
+      (λ holding. let near : (to -ℤ from) ≤ℤ (given +ℤ pos units) = decides.0 holding in omega (arith, ints, near, same, own, late, early), λ near. decides.1 (omega (arith, ints, near, same, own, late, early)))

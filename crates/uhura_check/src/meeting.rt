@@ -96,7 +96,7 @@ fn is_long_enough(
     let units = loosening.units(requirement_side(requirement, Side::Lower));
     let to = earliest(plan, loosening, times, requirement.to);
     let from = latest(plan, loosening, times, requirement.from);
-    i128::from(least) - i128::from(units) <= to - from
+    is_apart(least, units, from, to)
 }
 
 /// Whether the greatest difference of the times is at most the upper bound and its units.
@@ -121,6 +121,28 @@ fn is_short_enough(
     let units = loosening.units(requirement_side(requirement, Side::Upper));
     let to = latest(plan, loosening, times, requirement.to);
     let from = earliest(plan, loosening, times, requirement.from);
+    is_near(most, units, from, to)
+}
+
+/// Whether a time is at least so much after another, less so many units.
+fn is_apart(least: i64, units: u64, from: i128, to: i128) -> bool
+    requires from_least { neg_ℤ (pos 40_000_000_000_000_000_000) ≤ℤ from }
+    requires from_most { from ≤ℤ pos 40_000_000_000_000_000_000 }
+    requires to_least { neg_ℤ (pos 40_000_000_000_000_000_000) ≤ℤ to }
+    requires to_most { to ≤ℤ pos 40_000_000_000_000_000_000 }
+    ensures { Decides result ((least -ℤ pos units) ≤ℤ (to -ℤ from)) }
+{
+    i128::from(least) - i128::from(units) <= to - from
+}
+
+/// Whether a time is at most so much after another, and so many units.
+fn is_near(most: i64, units: u64, from: i128, to: i128) -> bool
+    requires from_least { neg_ℤ (pos 40_000_000_000_000_000_000) ≤ℤ from }
+    requires from_most { from ≤ℤ pos 40_000_000_000_000_000_000 }
+    requires to_least { neg_ℤ (pos 40_000_000_000_000_000_000) ≤ℤ to }
+    requires to_most { to ≤ℤ pos 40_000_000_000_000_000_000 }
+    ensures { Decides result ((to -ℤ from) ≤ℤ (most +ℤ pos units)) }
+{
     to - from <= i128::from(most) + i128::from(units)
 }
 
