@@ -1,6 +1,9 @@
 -- How a check goes on from leaf to leaf.
-use Rattle.std.proofs.Common.{◌≡◌, ℕ, zero, suc, ◌+◌, ◌<◌, ◌≤◌, List, [], ◌∷◌, ◌++◌, map, length, drop, get_or, None, Some, Option, true≢false, refl, sym, ap, ◌∙◌, subst, arith, append_assoc, append-nil}
+use Rattle.std.proofs.Common.{◌≡◌, ℕ, zero, suc, ◌+◌, ◌<◌, ◌≤◌, List, [], ◌∷◌, ◌++◌, map, length, drop, get_or, None, Some, Option, true, true≢false, refl, sym, ap, ◌∙◌, subst, arith, append_assoc, append-nil}
 use Rattle.std.specs.Prelude.{All, flat_map, IsSome, IfSome}
+use Rattle.std.specs.Ordering.{is_ne}
+use Rattle.std.specs.declared.cmp.Ordering.{Ordering}
+use Rattle.std.specs.declared.cmp.Ordering.TheVariants.{Less, Equal, Greater}
 use Rattle.std.proofs.lemmas.Option.{same_Some}
 use Rattle.std.proofs.lemmas.List.{length-append}
 use Rattle.std.proofs.lemmas.List.Elements.{All-nil, All-cons}
@@ -8,8 +11,9 @@ use Rattle.uhura_plan.specs.Lists.{Lists}
 use Rattle.uhura_plan.specs.Sound.{IsSound}
 use Rattle.uhura_plan.specs.declared.choice.Choice.{Choice}
 use Rattle.uhura_choice.specs.declared.prefix.Pick.{Pick}
-use Rattle.uhura_choice.specs.Branch.{IsBranch, IsPrefix}
-use Rattle.uhura_choice.specs.Order.{IsFrontOf}
+use Rattle.uhura_choice.specs.Branch.{IsBranch, IsPrefix, IsEarlier}
+use Rattle.uhura_choice.specs.Order.{IsFrontOf, Compares}
+use Rattle.uhura_choice.proofs.Earlier.{begins-not_earlier, begun-not_earlier}
 use Rattle.uhura_choice.specs.Walk.{IsFirstFrom, IsFirstBranch}
 use Rattle.uhura_shows.specs.Leaf.{prefixes_of}
 use Rattle.uhura_shows.specs.Shows.{Answer}
@@ -38,6 +42,12 @@ drop-zero (x ∷ xs) = refl
 
 -- ---- what comes next
 
+-- of two that differ where both have an alternative neither begins the other
+pub no-front : (order : Ordering) (prefix branch : List Pick) → Compares order prefix branch → is_ne order ≡ true → IsFrontOf prefix branch → ⊥
+no-front Less prefix branch earlier differs begins = begins-not_earlier prefix begins.0 (subst (λ (b : List Pick). IsEarlier prefix b) begins.1 earlier)
+no-front Equal prefix branch one differs begins = true≢false (sym differs)
+no-front Greater prefix branch later differs begins = begun-not_earlier prefix begins.0 (subst (λ (b : List Pick). IsEarlier b prefix) begins.1 later)
+
 module _ (cs : List Choice) (answer : Answer) (before : List (List Pick)) (picks : List Pick) where
   -- with no branch left nothing comes next
   pub ended-none : CoversUpTo cs before None → ComesNext cs answer before picks → ⊥
@@ -46,18 +56,18 @@ module _ (cs : List Choice) (answer : Answer) (before : List (List Pick)) (picks
       cc
 
   -- what comes next begins with the first branch that is left
-  pub next-first : (branch : List Pick) → CoversUpTo cs before (Some branch) → ComesNext cs answer before picks → IsFirstFrom cs picks branch
-  next-first branch covers comes =
-      let same : branch ≡ comes.branch = same_Some branch comes.branch (uncovered-next cs before (Some branch) comes.branch covers comes.uncovered) in
+  pub next-first : (next : Option (List Pick)) (branch : List Pick) → next ≡ Some branch → CoversUpTo cs before next → ComesNext cs answer before picks → IsFirstFrom cs picks branch
+  next-first next branch is covers comes =
+      let same : branch ≡ comes.branch = same_Some branch comes.branch (sym is ∙ uncovered-next cs before next comes.branch covers comes.uncovered) in
       subst (λ (b : List Pick). IsFirstFrom cs picks b) (sym same) comes.first
 
-  pub next-comes : (branch prefix : List Pick) → CoversUpTo cs before (Some branch) → prefix ≡ picks → IsPrefix cs picks → IsFirstFrom cs picks branch → IfSome answer (λ a. IsFrontOf prefix a.0 → prefix ≡ a.0) → IsNextPrefix cs answer before picks prefix
-  next-comes branch prefix covers same is_prefix first whole = record {
+  pub next-comes : (next : Option (List Pick)) (branch prefix : List Pick) → next ≡ Some branch → CoversUpTo cs before next → prefix ≡ picks → IsPrefix cs picks → IsFirstFrom cs picks branch → IfSome answer (λ a. IsFrontOf prefix a.0 → prefix ≡ a.0) → IsNextPrefix cs answer before picks prefix
+  next-comes next branch prefix is covers same is_prefix first whole = record {
     picked = same;
     is_prefix = is_prefix;
     next = record {
       branch = branch;
-      uncovered = next-uncovered cs before branch covers;
+      uncovered = next-uncovered cs before branch (subst (λ (n : Option (List Pick)). CoversUpTo cs before n) is covers);
       first = first;
       whole = subst (λ (p : List Pick). IfSome answer (λ a. IsFrontOf p a.0 → p ≡ a.0)) same whole;
     };
@@ -83,7 +93,7 @@ module _ (d : Document) (answer : Answer) (before : List (List Pick)) (line : �
   leaf-passed reached next sound covers comes tells behind is_told = record {
     kept = All-cons (IsKept d.state answer) next-asked reason-asked comes tells;
     covers = next-step d.state.plan sound answer before next leaf.prefix covers comes reached.next behind;
-    line = is_told;
+    come_to = is_told;
   }
 
 -- ---- all leaves
@@ -133,7 +143,7 @@ module _ (d : Document) (answer : Answer) where
         before = under.before ++ leaf.prefix ∷ [];
         line = under.line + length (leaf_items d.state leaf);
         covers = passed.covers;
-        is_told = passed.line;
+        is_told = passed.come_to;
         prefixes =
             append_assoc under.before (leaf.prefix ∷ []) (prefixes_of (map (leaf_of d.shared) (drop place' d.leaves)))
             ∙ ap (λ (ls : List Leaf). under.before ++ (leaf.prefix ∷ prefixes_of (map (leaf_of d.shared) ls))) left

@@ -35,7 +35,7 @@ pub record IsPassed (d : Document) (answer : Answer) (before : List (List Pick))
     (leaf : Leaf) (reached : Reached) : Type 0 where
   pub kept : All (IsKept d.state answer) (leaf_asks d before line leaf)
   pub covers : CoversUpTo d.state.plan.choices (before ++ leaf.prefix ∷ []) reached.next
-  pub line : reached.line ≡ told (line + length (leaf_items d.state leaf))
+  pub come_to : reached.line ≡ told (line + length (leaf_items d.state leaf))
 
 -- a branch is left uncovered, which is told where the walk has come to
 pub record IsMissingAt (reached : Reached) (failure : Failure) : Type 0 where

@@ -63,9 +63,11 @@ fn proposal_failure(state: &State, branch: &Branch, proposal: &Proposal) -> Opti
             line: proposal_line(state),
         });
     }
-    let place = first_not_met(plan, branch, loosening, proposal.times.as_slice())?;
-    Some(Failure {
-        code: Code::Broken,
-        line: requirement_line(plan, place),
-    })
+    match first_not_met(plan, branch, loosening, proposal.times.as_slice()) {
+        Some(place) => Some(Failure {
+            code: Code::Broken,
+            line: requirement_line(plan, place),
+        }),
+        None => None,
+    }
 }
