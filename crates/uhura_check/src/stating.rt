@@ -48,7 +48,9 @@ fn proposal_failure(state: &State, branch: &Branch, proposal: &Proposal) -> Opti
     ensures { (d : Document) → d.state ≡ state.now → Tells d.state (answer_of d)
         (proposal_asks d proposal.now) result }
 {
+    // By its type the plan is sound.
     let plan = &state.plan;
+    let _ = plan.choices();
     let loosening = &proposal.loosening;
     if let Some(place) = first_without_room(state, branch, loosening) {
         let line = side_line(state, proposal.picks.as_slice().len(), place);
