@@ -1,6 +1,6 @@
 //! What fails first among the conditions on the leaves. The walk keeps the first branch that no leaf so far covers;
 //! the next leaf begins with it, and the walk goes on behind all that the leaf's prefix begins.
-ghost use Rattle.std.specs.Prelude.{◌≡◌, ◌+◌, ℕ, List, length, IfSome, None, IfOk, MatchOption, MatchResult};
+ghost use Rattle.std.specs.Prelude.{◌≡◌, ◌+◌, ℕ, [], List, length, IfSome, None, IfOk, MatchOption, MatchResult};
 ghost use Rattle.uhura_choice.specs.declared.prefix.Pick.{Pick};
 ghost use Rattle.uhura_choice.specs.Branch.{IsBranch};
 ghost use Rattle.uhura_veto.specs.State.{State};
