@@ -1,11 +1,11 @@
 -- How a check goes on from leaf to leaf.
 use Rattle.std.proofs.Common.{◌≡◌, ℕ, zero, suc, ◌+◌, ◌<◌, ◌≤◌, List, [], ◌∷◌, ◌++◌, map, length, drop, get_or, None, Some, Option, true, true≢false, refl, sym, ap, ◌∙◌, subst, arith, append_assoc, append-nil}
-use Rattle.std.specs.Prelude.{All, flat_map, slice_get, IsSome, IfSome, MatchOption}
+use Rattle.std.specs.Prelude.{All, flat_map, IsSome, IfSome, MatchOption}
 use Rattle.std.specs.Ordering.{is_ne}
 use Rattle.std.specs.declared.cmp.Ordering.{Ordering}
 use Rattle.std.specs.declared.cmp.Ordering.TheVariants.{Less, Equal, Greater}
 use Rattle.std.proofs.Math.Seq.{drop-cons}
-use Rattle.std.proofs.lemmas.Option.{same_Some, slice_get_within, get_or_from_slice_get}
+use Rattle.std.proofs.lemmas.Option.{same_Some}
 use Rattle.std.proofs.lemmas.List.{length-append}
 use Rattle.std.proofs.lemmas.List.Elements.{All-nil, All-cons}
 use Rattle.uhura_plan.specs.Lists.{Lists}
@@ -203,7 +203,7 @@ module _ (d : Document) (answer : Answer) where
       misses (Some f) missing = misses-one f missing
 
 -- what is dropped from a place on begins with what stands there
-pub drop-there : {X : Type 0} (xs : List X) (place : ℕ) (x : X) → slice_get xs place ≡ Some x → drop place xs ≡ x ∷ drop (place + 1) xs
-drop-there xs place x is =
+pub drop-there : {X : Type 0} (xs given : List X) (place : ℕ) (x : X) → given ≡ xs → place < length given → x ≡ get_or given place x → drop place xs ≡ x ∷ drop (place + 1) xs
+drop-there xs given place x same below is =
     let next : suc place ≡ place + 1 = omega arith in
-    drop-cons xs place x (slice_get_within xs place x is) ∙ ap (λ y. y ∷ drop (suc place) xs) (get_or_from_slice_get xs place x x is) ∙ ap (λ (n : ℕ). x ∷ drop n xs) next
+    drop-cons xs place x (omega (arith, below, ap length same)) ∙ ap (λ y. y ∷ drop (suc place) xs) (sym (is ∙ ap (λ l. get_or l place x) same)) ∙ ap (λ (n : ℕ). x ∷ drop n xs) next

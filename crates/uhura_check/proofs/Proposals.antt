@@ -1,12 +1,13 @@
 -- What a proposal fails first.
 use Rattle.std.proofs.Common.{◌≡◌, ℕ, ◌+◌, ◌<◌, List, [], ◌∷◌, ◌++◌, length, None, Some, Option, refl, sym, ap, ◌∙◌, subst, arith}
-use Rattle.std.specs.Prelude.{ℤ, All, min, ◌^◌, option_map}
-use Rattle.std.proofs.lemmas.List.Elements.{All-nil, All-cons, All-append}
+use Rattle.std.specs.Prelude.{ℤ, All, min, ◌^◌, IfSome, option_map}
+use Rattle.std.proofs.lemmas.List.Elements.{All-head}
 use Rattle.std.proofs.lemmas.Option.{slice_get_within}
 use Rattle.uhura_plan.specs.Sound.{IsSound}
 use Rattle.uhura_plan.specs.declared.key.SideKey.{SideKey}
 use Rattle.uhura_plan.specs.declared.guard.Literal.{Literal}
 use Rattle.uhura_choice.specs.declared.prefix.Pick.{Pick}
+use Rattle.uhura_choice.specs.Branch.{IsBranch}
 use Rattle.uhura_veto.specs.State.{State}
 use Rattle.uhura_command.specs.Script.{commands_of}
 use Rattle.uhura_worst.specs.Proposal.{Proposal}
@@ -155,3 +156,19 @@ module _ (d : Document) (p : Stated) (state inside : State) (branch : List Pick)
 -- the place of what fails first is one of the list
 pub first-within : {A : Type 0} (IsSo : A → Type 0) (xs : List A) (i : ℕ) → IsFirstNot IsSo xs i → i < length xs
 first-within IsSo xs i first = slice_get_within xs i first.thing first.there
+
+-- the picks of a proposal that fails nothing are those of a branch
+picked-first : (d : Document) (p : Stated) → All (IsKept d.state (answer_of d)) (proposal_asks d p) → IsPicked d.state (q d p).branch
+unfolding picks-asked sides-asked cost-asked met-asked
+picked-first d p kept = All-head (IsKept d.state (answer_of d)) (picks-asked d (answer_of d) p) (sides-asked d (answer_of d) p ++ cost-asked d (answer_of d) p ∷ met-asked d (answer_of d) p) kept
+
+-- the branch of an answer is one
+abbrev HasBranch : Document → Answer → Type 0
+HasBranch d answer = IfSome answer (λ a. IsBranch d.state.plan.choices a.0)
+
+pub answered-branch : (d : Document) (answer : Answer) → IsAnswered d answer → HasBranch d answer
+answered-branch d answer is = subst (λ (a : Answer). HasBranch d a) (sym is.is_stated) (by d.answer is.kept)
+  where
+    by : (given : Option Stated) → All (IsKept d.state (answer_of d)) (answer_asks d given) → HasBranch d (option_map (λ (s : Stated). ((proposal_of d.state.plan s).branch, s.cost)) given)
+    by None kept = tt
+    by (Some p) kept = (picked-first d p kept).branch

@@ -1,6 +1,6 @@
 //! What fails first among the conditions on the proposal.
 ghost use Rattle.std.specs.Prelude.{◌≡◌, MatchResult};
-ghost use Rattle.uhura_cert.specs.Document.{Document};
+ghost use Rattle.uhura_cert.specs.Document.{Document, IsDocument};
 ghost use Rattle.uhura_check.specs.Confirmed.{answer_of};
 ghost use Rattle.uhura_check.specs.Picks.{IsPickedBy};
 ghost use Rattle.uhura_check.specs.Table.{proposal_asks, answer_asks};
@@ -22,9 +22,10 @@ use uhura_command::State;
 /// The branch and the cost that a document states, where it has a proposal, and where that fails a condition, the
 /// first that it fails.
 pub(crate) fn stated_answer(document: &Document) -> Result<Option<(Branch, u128)>, Failure>
-    ensures { MatchResult result (IsAnswered document.now)
+    ensures found { MatchResult result (IsAnswered document.now)
         (IsToldFirst document.now.state (answer_of document.now)
         (answer_asks document.now document.now.answer)) }
+    ensures fits { IsDocument document.now }
 {
     let Some(proposal) = answer_of(document) else {
         return Ok(None);
