@@ -13,3 +13,5 @@ pub mod PickFailure
 pub mod Rooms
 pub mod Firsts
 pub mod RoomFailure
+pub mod Adding
+pub mod Ledgers

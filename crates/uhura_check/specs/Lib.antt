@@ -5,3 +5,5 @@ pub mod Failure
 pub mod Examples
 pub mod Picks
 pub mod Firsts
+pub mod Edges
+pub mod Ledger

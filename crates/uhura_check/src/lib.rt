@@ -6,14 +6,18 @@
 
 mod active;
 mod denied;
+mod edges;
 pub mod examples;
 mod failure;
 pub mod laws;
+mod ledger;
 mod lines;
 mod picks;
 mod refusal;
 mod room;
 mod units;
+mod value;
+mod walk;
 
 pub use active::{is_active_edge, is_active_item};
 pub use denied::is_denied_by;
