@@ -1,5 +1,5 @@
 //! What each node is due: the units that come in less those that go out.
-ghost use Rattle.std.specs.Prelude.{◌≡◌, ◌<◌, ◌*◌, ◌+ℤ◌, ◌-ℤ◌, ℕ, pos, All, length, slice_set};
+ghost use Rattle.std.specs.Prelude.{◌≡◌, ◌<◌, ◌+◌, ◌*◌, ◌+ℤ◌, ◌-ℤ◌, ℕ, pos, All, length, slice_set};
 ghost use Rattle.std.specs.Bool.{Decides};
 ghost use Rattle.uhura_net.specs.declared.edge.TheConstants.{NODES};
 ghost use Rattle.uhura_check.specs.Edges.{IsWithin, IsSmallEdge, AreFew, most_edges};
@@ -12,7 +12,7 @@ use uhura_plan::EdgeKey;
 /// A node is due so many units more.
 fn add(due: &mut [i128], node: u32, units: u64)
     requires inside { node < length due.old }
-    requires due { IsWithin (most_edges * 18446744073709551616) (due_at due.old node) }
+    requires due { IsWithin ((most_edges + 1) * 18446744073709551615) (due_at due.old node) }
     ensures { due.new ≡ slice_set due.old node (due_at due.old node +ℤ pos units) }
 {
     due[node as usize] += i128::from(units);
@@ -21,7 +21,7 @@ fn add(due: &mut [i128], node: u32, units: u64)
 /// A node is due so many units less.
 fn take(due: &mut [i128], node: u32, units: u64)
     requires inside { node < length due.old }
-    requires due { IsWithin (most_edges * 18446744073709551616) (due_at due.old node) }
+    requires due { IsWithin ((most_edges + 1) * 18446744073709551615) (due_at due.old node) }
     ensures { due.new ≡ slice_set due.old node (due_at due.old node -ℤ pos units) }
 {
     due[node as usize] -= i128::from(units);

@@ -5,4 +5,4 @@ use Rattle.uhura_check.proofs.Ledgers.{entered-more}
 use Rattle.uhura_check.proofs.ledger.enter_all.Goals as goal
 
 pub loop-place-preserved : goal.loop-place-preserved
-loop-place-preserved c = let h = c.type_inv in let e = c.enter.ensures in ?
+loop-place-preserved c = let h = c.before.enter.type_inv in let e = c.enter.ensures in let d = c.edge_in.type_inv in ?
