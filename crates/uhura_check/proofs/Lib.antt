@@ -13,5 +13,6 @@ pub mod PickFailure
 pub mod Rooms
 pub mod Firsts
 pub mod RoomFailure
+pub mod Things
 pub mod Adding
 pub mod Ledgers

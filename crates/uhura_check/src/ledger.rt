@@ -1,5 +1,5 @@
 //! What each node is due: the units that come in less those that go out.
-ghost use Rattle.std.specs.Prelude.{◌≡◌, ◌<◌, ◌+◌, ◌*◌, ◌+ℤ◌, ◌-ℤ◌, ℕ, pos, All, length, slice_set};
+ghost use Rattle.std.specs.Prelude.{◌≡◌, ◌<◌, ◌≤◌, ◌+◌, ◌*◌, ◌+ℤ◌, ◌-ℤ◌, ℕ, pos, All, length, slice_set};
 ghost use Rattle.std.specs.Bool.{Decides};
 ghost use Rattle.uhura_net.specs.declared.edge.TheConstants.{NODES};
 ghost use Rattle.uhura_check.specs.Edges.{IsWithin, IsSmallEdge, AreFew, most_edges};
@@ -33,8 +33,9 @@ fn enter(due: &mut [i128], edge: Edge, units: u64)
     requires edge { IsSmallEdge edge }
     requires due { (node : ℕ) → node < NODES →
         IsWithin (most_edges * 18446744073709551615) (due_at due.old node) }
-    ensures { (node : ℕ) → node < NODES →
+    ensures due { (node : ℕ) → node < NODES →
         due_at due.new node ≡ due_at due.old node +ℤ brought edge units node }
+    ensures fits { units ≤ 18446744073709551615 }
 {
     add(due, edge.to, units);
     take(due, edge.from, units);

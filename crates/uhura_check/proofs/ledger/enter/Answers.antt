@@ -14,8 +14,8 @@ take-requires-clause-due c =
       above = omega (arith, ints, old.below, old.above, more, few, c.ranges.units.fits);
     }
 
-pub returns : goal.returns
-returns c = λ node below.
+pub returns-clause-due : goal.returns-clause-due
+returns-clause-due c = λ node below.
     let more = due-more c.args.due.now c.add.new.due c.args.edge.to node c.args.units (omega (arith, c.requires.nodes, c.requires.edge.to)) c.add.ensures in
     let less = due-less c.add.new.due c.take.new.due c.args.edge.from node c.args.units (omega (arith, c.requires.nodes, c.add.auto.due, c.requires.edge.from)) c.take.ensures in
     omega (arith, ints, more, less)
