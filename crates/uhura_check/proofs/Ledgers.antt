@@ -180,3 +180,11 @@ cleared-more table pairs count due edge pair inside is small nodes cleared node 
         due-none (slice_set due edge.to (pos 0)) edge.from node from_inside
         (due-none due edge.to node to_inside
         (cleared node below (subst (λ l. All (IsApart table node) l) (sym next) (All-cons (IsApart table node) (get_or pairs count pair) (drop (count + 1) pairs) apart further))))
+
+-- ---- testing
+
+pub even-is : (table : List (Option Edge)) (due : List ℤ) (edge : Edge) (pair : EdgeKey × ℕ) → edge ≡ edge_in table pair.0 → (due_at due edge.to ≡ pos 0) × (due_at due edge.from ≡ pos 0) → IsEven table due pair
+even-is table due edge pair is even = record {
+  to = ap (λ (e : Edge). due_at due e.to) (sym is) ∙ even.0;
+  from = ap (λ (e : Edge). due_at due e.from) (sym is) ∙ even.1;
+}

@@ -16,3 +16,4 @@ pub mod RoomFailure
 pub mod Things
 pub mod Adding
 pub mod Ledgers
+pub mod Balances

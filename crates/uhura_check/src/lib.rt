@@ -5,6 +5,7 @@
 #![tactic(auto)]
 
 mod active;
+mod balance;
 mod denied;
 mod edges;
 pub mod examples;
