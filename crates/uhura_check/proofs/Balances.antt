@@ -34,3 +34,31 @@ due-units state table node (pair ∷ pairs) is placed =
     ap (λ (e : Edge). brought e pair.1 node) (edge-keyed state table pair.0 is (All-head (λ (p : EdgeKey × ℕ). HasPlace p.0) pair pairs placed)) in
     let rest = due-units state table node pairs is (All-tail (λ (p : EdgeKey × ℕ). HasPlace p.0) pair pairs placed) in
     omega (arith, ints, first, rest, sum_by-cons into pair pairs, sum_by-cons out pair pairs)
+
+-- ---- units balance exactly where all ends are even
+
+far-apart : (table : List (Option Edge)) (node : ℕ) (pairs : List (EdgeKey × ℕ)) → NODES ≤ node → All (λ (p : EdgeKey × ℕ). IsSmallEdge (edge_in table p.0)) pairs → All (IsApart table node) pairs
+far-apart table node pairs far small = λ k d below.
+    let edge = small k d below in
+    record { to = λ same. omega (arith, far, edge.to, same); from = λ same. omega (arith, far, edge.from, same) }
+
+module _ (state : State) (table : List (Option Edge)) (pairs : List (EdgeKey × ℕ)) (due : List ℤ) (is : IsTableOf state table) (placed : All (λ (p : EdgeKey × ℕ). HasPlace p.0) pairs)
+    (small : All (λ (p : EdgeKey × ℕ). IsSmallEdge (edge_in table p.0)) pairs) (ledger : IsLedgerOf table pairs due) where
+  even-balanced : All (IsEven table due) pairs → Balances state pairs
+  even-balanced even node =
+      let units = due-units state table node pairs is placed in
+      elim (cases_lt node NODES) [
+        | inl below ↦ let none = even-clear table pairs due ledger even node below in omega (arith, ints, units, none, ledger node below)
+        | inr far ↦ let none = apart-due table node pairs (far-apart table node pairs far small) in omega (arith, ints, units, none)
+      ]
+
+  none-due : Balances state pairs → (node : ℕ) → node < NODES → due_at due node ≡ pos 0
+  none-due balances node below = omega (arith, ints, due-units state table node pairs is placed, ledger node below, balances node)
+
+  balanced-even : Balances state pairs → All (IsEven table due) pairs
+  balanced-even balances = λ k d below.
+      let edge = small k d below in
+      record { to = none-due balances (edge_in table (get_or pairs k d).0).to edge.to; from = none-due balances (edge_in table (get_or pairs k d).0).from edge.from }
+
+  pub even-decides : (test : Bool) → Decides test (All (IsEven table due) pairs) → Decides test (Balances state pairs)
+  even-decides test decides = (λ so. even-balanced (decides.0 so), λ balances. decides.1 (balanced-even balances))

@@ -17,3 +17,4 @@ pub mod Things
 pub mod Adding
 pub mod Ledgers
 pub mod Balances
+pub mod Values

@@ -2,7 +2,7 @@
 ghost use Rattle.std.specs.Prelude.{◌≡◌, ◌<◌, ◌≤◌, ◌+◌, ◌*◌, ◌+ℤ◌, ◌-ℤ◌, ℕ, pos, All, length, slice_set};
 ghost use Rattle.std.specs.Bool.{Decides};
 ghost use Rattle.uhura_net.specs.declared.edge.TheConstants.{NODES};
-ghost use Rattle.uhura_check.specs.Edges.{IsWithin, IsSmallEdge, AreFew, most_edges};
+ghost use Rattle.uhura_check.specs.Edges.{edge_in, IsWithin, IsSmallEdge, AreFew, most_edges};
 ghost use Rattle.uhura_check.specs.Ledger.{due_at, brought, IsClear, IsLedgerOf, IsEven};
 
 use crate::edges::edge_in;
@@ -46,7 +46,8 @@ pub(crate) fn enter_all(due: &mut [i128], table: &EdgeTable, pairs: &[(EdgeKey, 
     requires nodes { length due.old ≡ NODES }
     requires clear { IsClear due.old }
     requires pairs { AreFew pairs.now }
-    ensures { IsLedgerOf table.now pairs.now due.new }
+    ensures due { IsLedgerOf table.now pairs.now due.new }
+    ensures small { All (λ pair. IsSmallEdge (edge_in table.now pair.0)) pairs.now }
 {
     for place in 0..pairs.len() {
         let (key, units) = pairs[place];
