@@ -18,3 +18,4 @@ pub mod Adding
 pub mod Ledgers
 pub mod Balances
 pub mod Values
+pub mod Walked

@@ -8,6 +8,7 @@ mod active;
 mod balance;
 mod denied;
 mod edges;
+mod enough;
 pub mod examples;
 mod failure;
 pub mod laws;
@@ -26,4 +27,4 @@ pub use lines::{line_after, proposal_line, side_line};
 pub use picks::picked_branch;
 pub use refusal::{CheckRefusal, Code};
 pub use room::{first_without_room, has_room};
-pub use units::{first_not_carried, may_carry};
+
