@@ -19,3 +19,5 @@ pub mod Ledgers
 pub mod Balances
 pub mod Values
 pub mod Walked
+pub mod Reaching
+pub mod Carrying

@@ -64,3 +64,18 @@ edges-keyed state table [] is placed = refl
 edges-keyed state table (key ∷ keys) is placed =
     ap (λ (e : Edge). e ∷ map (edge_in table) keys) (edge-keyed state table key is (All-head HasPlace key keys placed))
     ∙ ap (λ l. keyed_edge state key ∷ l) (edges-keyed state table keys is (All-tail HasPlace key keys placed))
+
+-- a walk that is closed and sums below 0 by a table does so by the state
+pub negative-decides : (state : State) (table : List (Option Edge)) (keys : List EdgeKey) (sum : ℤ) (test : Bool) → IsTableOf state table → All HasPlace keys → All (IsFirmKey state) keys → IsClosedWalk (map (edge_in table) keys) →
+    sum ≡ bounds_of (map (edge_in table) keys) → Decides test (sum <ℤ pos 0) → Decides test (IsNegativeKeyedWalk state keys)
+negative-decides state table keys sum test is placed firm closed sum_is decides =
+    let same : map (edge_in table) keys ≡ map (keyed_edge state) keys = edges-keyed state table keys is placed in
+    let sum_of : sum ≡ bounds_of (map (keyed_edge state) keys) = sum_is ∙ ap bounds_of same in
+    (
+      λ so. record { each = firm; closed = subst IsClosedWalk same closed; below = subst (λ (z : ℤ). z <ℤ pos 0) sum_of (decides.0 so) },
+      λ walk. decides.1 (subst (λ (z : ℤ). z <ℤ pos 0) (sym sum_of) walk.below),
+    )
+
+-- one that isn't closed isn't such
+pub not-closed : (state : State) (table : List (Option Edge)) (keys : List EdgeKey) → IsTableOf state table → All HasPlace keys → (IsClosedWalk (map (edge_in table) keys) → ⊥) → IsNegativeKeyedWalk state keys → ⊥
+not-closed state table keys is placed open walk = open (subst IsClosedWalk (sym (edges-keyed state table keys is placed)) walk.closed)

@@ -52,7 +52,8 @@ fn reaches(shown: i128, cost: u128, prefix: &Prefix, branch: &Branch) -> bool
 {
     match compare(prefix, branch) {
         Ordering::Less => is_more(shown, cost),
-        Ordering::Equal | Ordering::Greater => is_as_much(shown, cost),
+        Ordering::Equal => is_as_much(shown, cost),
+        Ordering::Greater => is_as_much(shown, cost),
     }
 }
 

@@ -1,5 +1,5 @@
 //! Whether edges are those of a walk that shows a clash.
-ghost use Rattle.std.specs.Prelude.{◌≡◌, All, map};
+ghost use Rattle.std.specs.Prelude.{◌≡◌, pos, ◌<ℤ◌, All, map};
 ghost use Rattle.std.specs.Bool.{Decides};
 ghost use Rattle.uhura_net.specs.Place.{HasPlace, is_loose_key};
 ghost use Rattle.uhura_net.specs.Walk.{IsClosedWalk, Leads, bounds_of};
@@ -18,7 +18,13 @@ pub(crate) fn is_negative_walk(table: &EdgeTable, keys: &[EdgeKey]) -> bool
     ensures { (state : State) → IsTableOf state table.now →
         Decides result (IsNegativeKeyedWalk state keys.now) }
 {
-    are_firm(table, keys) && is_closed(table, keys) && bounds_along(table, keys) < 0
+    if !are_firm(table, keys) {
+        return false;
+    }
+    if !is_closed(table, keys) {
+        return false;
+    }
+    is_below_0(bounds_along(table, keys))
 }
 
 /// Whether each edge is there, and isn't loose.
@@ -93,4 +99,11 @@ fn bounds_along(table: &EdgeTable, keys: &[EdgeKey]) -> i128
         sum += i128::from(edge_in(table, keys[place]).bound);
     }
     sum
+}
+
+/// Whether a sum is below 0.
+fn is_below_0(sum: i128) -> bool
+    ensures { Decides result (sum <ℤ pos 0) }
+{
+    sum < 0
 }
