@@ -78,4 +78,4 @@ negative-decides state table keys sum test is placed firm closed sum_is decides 
 
 -- one that isn't closed isn't such
 pub not-closed : (state : State) (table : List (Option Edge)) (keys : List EdgeKey) → IsTableOf state table → All HasPlace keys → (IsClosedWalk (map (edge_in table) keys) → ⊥) → IsNegativeKeyedWalk state keys → ⊥
-not-closed state table keys is placed open walk = open (subst IsClosedWalk (sym (edges-keyed state table keys is placed)) walk.closed)
+not-closed state table keys is placed never walk = never (subst IsClosedWalk (sym (edges-keyed state table keys is placed)) walk.closed)
