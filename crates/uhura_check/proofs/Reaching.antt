@@ -7,7 +7,7 @@ use Rattle.uhura_choice.specs.declared.prefix.Pick.{Pick}
 use Rattle.uhura_choice.specs.Branch.{IsEarlier}
 use Rattle.uhura_choice.specs.Order.{IsFrontOf}
 use Rattle.uhura_choice.proofs.Earlier.{begins-not_earlier, begun-not_earlier}
-use Rattle.uhura_check.specs.Units.{Reaches}
+use Rattle.uhura_check.specs.Reaches.{Reaches}
 
 -- one that isn't earlier
 pub reaches-not_earlier : (shown : ℤ) (cost : ℕ) (prefix branch : List Pick) (test : Bool) → (IsEarlier prefix branch → ⊥) → Decides test (pos cost ≤ℤ shown) → Decides test (Reaches shown cost prefix branch)

@@ -7,4 +7,4 @@ pub mod Picks
 pub mod Firsts
 pub mod Edges
 pub mod Ledger
-pub mod Units
+pub mod Reaches

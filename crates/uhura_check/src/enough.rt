@@ -7,7 +7,7 @@ ghost use Rattle.uhura_choice.specs.Order.{ArePrefixesOfOne};
 ghost use Rattle.uhura_shows.specs.Carried.{value_of_pairs};
 ghost use Rattle.uhura_check.specs.Conditions.{Suffices};
 ghost use Rattle.uhura_check.specs.Edges.{IsWithin, most_edges, greatest_worth};
-ghost use Rattle.uhura_check.specs.Units.{Reaches};
+ghost use Rattle.uhura_check.specs.Reaches.{Reaches};
 
 use std::cmp::Ordering;
 use uhura_choice::{Branch, Prefix, compare, picked_cost};

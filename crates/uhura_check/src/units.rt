@@ -8,7 +8,7 @@ ghost use Rattle.uhura_shows.specs.Carried.{IsCarried};
 ghost use Rattle.uhura_check.specs.Conditions.{MayCarry};
 ghost use Rattle.uhura_check.specs.Edges.{AreFew};
 ghost use Rattle.uhura_check.specs.Firsts.{IsFirstNot};
-ghost use Rattle.uhura_check.specs.Units.{IsSettledIn};
+ghost use Rattle.uhura_check.specs.Reaches.{IsSettledIn};
 
 use crate::active::is_active_edge;
 use crate::edges::{edge_in, has_edge};

@@ -1,6 +1,6 @@
 use Rattle.std.proofs.Common.{take}
 use Rattle.std.specs.Prelude.{All}
-use Rattle.uhura_check.specs.Units.{IsSettledIn}
+use Rattle.uhura_check.specs.Reaches.{IsSettledIn}
 use Rattle.uhura_check.proofs.units.first_inactive.Given as goal
 
 -- the first edges are settled active
