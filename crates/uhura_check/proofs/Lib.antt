@@ -18,6 +18,6 @@ pub mod Adding
 pub mod Ledgers
 pub mod Balances
 pub mod Values
-pub mod Walked
+pub mod Walks
 pub mod Reaching
 pub mod Carrying

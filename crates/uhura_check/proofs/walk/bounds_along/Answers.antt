@@ -5,7 +5,7 @@ use Rattle.uhura_net.specs.declared.edge.Edge.{Edge}
 use Rattle.uhura_check.specs.Edges.{greatest_bound}
 use Rattle.uhura_check.proofs.Things.{some_key}
 use Rattle.uhura_check.proofs.Adding.{added_up-more, added_up-all}
-use Rattle.uhura_check.proofs.Walked.{bound_in, sum-bounds}
+use Rattle.uhura_check.proofs.Walks.{bound_in, sum-bounds}
 use Rattle.uhura_check.proofs.walk.bounds_along.Goals as goal
 
 pub loop-place-preserved : goal.loop-place-preserved

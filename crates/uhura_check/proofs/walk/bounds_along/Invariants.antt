@@ -1,6 +1,6 @@
 use Rattle.uhura_check.specs.Edges.{greatest_bound}
 use Rattle.uhura_check.proofs.Adding.{IsAddedUp}
-use Rattle.uhura_check.proofs.Walked.{bound_in}
+use Rattle.uhura_check.proofs.Walks.{bound_in}
 use Rattle.uhura_check.proofs.walk.bounds_along.Given as goal
 
 -- the bounds of the first edges

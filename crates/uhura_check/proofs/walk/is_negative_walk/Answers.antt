@@ -3,7 +3,7 @@ use Rattle.std.specs.Prelude.{◌<ℤ◌}
 use Rattle.std.specs.Bool.{Decides}
 use Rattle.std.specs.Int.{w128}
 use Rattle.std.proofs.lemmas.Int.{to_z-of_z}
-use Rattle.uhura_check.proofs.Walked.{negative-decides, not-closed}
+use Rattle.uhura_check.proofs.Walks.{negative-decides, not-closed}
 use Rattle.uhura_check.proofs.walk.is_negative_walk.Goals as goal
 
 pub returns-then-not-are_firm : goal.returns-then-not-are_firm

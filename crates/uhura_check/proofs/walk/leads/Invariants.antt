@@ -1,5 +1,5 @@
 use Rattle.uhura_check.specs.Edges.{edge_in}
-use Rattle.uhura_check.proofs.Walked.{IsLedTo}
+use Rattle.uhura_check.proofs.Walks.{IsLedTo}
 use Rattle.uhura_check.proofs.walk.leads.Given as goal
 
 -- the first edges lead to the node
