@@ -9,10 +9,8 @@ pub mod Confirming
 pub mod Branches
 pub mod Lengths
 pub mod Failing
-pub mod PickFailure
 pub mod Rooms
 pub mod Firsts
-pub mod RoomFailure
 pub mod Things
 pub mod Adding
 pub mod Ledgers
@@ -21,3 +19,11 @@ pub mod Values
 pub mod Walks
 pub mod Reaching
 pub mod Carrying
+pub mod Placed
+pub mod Entering
+pub mod ReasonTelling
+pub mod Telling
+pub mod Costs
+pub mod Meetings
+pub mod Proposals
+pub mod Leaving

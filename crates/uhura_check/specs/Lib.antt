@@ -8,3 +8,6 @@ pub mod Firsts
 pub mod Edges
 pub mod Ledger
 pub mod Reaches
+pub mod Units
+pub mod Walked
+pub mod Entries

@@ -1,0 +1,42 @@
+//! The check of a document.
+ghost use Rattle.std.specs.Prelude.{IfOk};
+ghost use Rattle.uhura_check.specs.Confirmed.{answer_of};
+ghost use Rattle.uhura_check.specs.Table.{asks_of, Checks};
+ghost use Rattle.uhura_check.specs.Failure.{Tells};
+
+use crate::entries::entries_of;
+use crate::failure::Failure;
+use crate::leaves::leaves_failure;
+use crate::reasons::Scratch;
+use crate::stating::stated_answer;
+use crate::{CheckRefusal};
+use std::alloc::{AllocError, Global};
+use uhura_cert::Document;
+
+/// Whether a document is confirmed: its proposal is allowed in whole units and costs what it states, and its leaves
+/// show that nothing that is allowed is better, or, where it has no proposal, that nothing is allowed. Else the first
+/// condition that it fails, with the line, counted from 1, at which it is told. It takes time and memory in the
+/// document's size.
+pub fn check(alloc: Global, document: &Document) -> Result<(), CheckRefusal>
+    ensures { Checks document.now result }
+{
+    match first_failure(alloc, document).map_err(CheckRefusal::Memory)? {
+        Some(failure) => Err(CheckRefusal::NotConfirmed {
+            code: failure.code,
+            line: failure.line,
+        }),
+        None => Ok(()),
+    }
+}
+
+/// What a document fails first.
+fn first_failure(alloc: Global, document: &Document) -> Result<Option<Failure>, AllocError>
+    ensures { IfOk result (λ found. Tells document.now.state (answer_of document.now)
+        (asks_of document.now) found) }
+{
+    let answer = match stated_answer(document) {
+        Ok(answer) => answer,
+        Err(failure) => return Ok(Some(failure)),
+    };
+    leaves_failure(alloc, document, &answer)
+}
