@@ -7,7 +7,7 @@ ghost use Rattle.uhura_check.specs.Failure.{Tells};
 use crate::entries::entries_of;
 use crate::failure::Failure;
 use crate::leaves::leaves_failure;
-use crate::reasons::Scratch;
+use crate::balance::Scratch;
 use crate::stating::stated_answer;
 use crate::{CheckRefusal};
 use std::alloc::{AllocError, Global};

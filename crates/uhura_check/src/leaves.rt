@@ -19,7 +19,8 @@ use crate::entries::{Entries, entries_of};
 use crate::failure::Failure;
 use crate::lines::line_after;
 use crate::parts::{leaves_of, plan_of};
-use crate::reasons::{Scratch, reason_failure};
+use crate::balance::Scratch;
+use crate::reasons::reason_failure;
 use std::alloc::{AllocError, Global};
 use uhura_cert::{Document, Leaf, Reason};
 use uhura_choice::{Branch, first_branch};
@@ -89,7 +90,7 @@ fn pass_leaf(
     };
     let own = line_after(reached.line, 1);
     let reason = &leaf.reason;
-    match reason_failure(document, entries, scratch, answer, &prefix, reason, own)? {
+    match reason_failure(document, entries, scratch, answer, &prefix, reason, own) {
         Some(failure) => Ok(Err(failure)),
         None => Ok(Ok(Reached {
             next: next_branch_behind(plan, &prefix),
