@@ -1,22 +1,75 @@
 -- Shared entries worked out one after another.
-use Rattle.std.proofs.Common.{◌≡◌, ℕ, zero, suc, ◌+◌, ◌≤◌, ◌<◌, List, [], ◌∷◌, ◌++◌, Option, None, Some, length, take, flat_map, refl, sym, ap, subst, ◌∙◌, arith}
+use Rattle.std.proofs.Common.{◌≡◌, ℕ, zero, suc, ◌+◌, ◌≤◌, ◌<◌, List, [], ◌∷◌, ◌++◌, Option, None, Some, length, take, flat_map, refl, sym, ap, subst, ◌∙◌, inl, inr, arith}
 use Rattle.std.specs.Prelude.{slice_get, min}
+use Rattle.std.proofs.lemmas.Bool.{cases_lt}
 use Rattle.std.proofs.lemmas.Option.{none-some, same_Some, slice_get_within}
 use Rattle.std.proofs.lemmas.List.{length-append, take_all}
+use Rattle.uhura_item.specs.declared.item.Item.{Item}
 use Rattle.uhura_cert.specs.declared.document.Shared.{Shared}
 use Rattle.uhura_cert.specs.Document.{Document}
 use Rattle.uhura_cert.specs.Items.{shared_items, to_answer, to_shared}
+use Rattle.uhura_cert.proofs.Ordered.{slice_get-kept, slice_get-last}
 use Rattle.uhura_check.specs.declared.entries.Entry.{Entry}
 use Rattle.uhura_check.specs.Entries.{IsEntryOf, AreWorkedOf}
 use Rattle.uhura_check.specs.Failure.{told}
 use Rattle.uhura_check.specs.Table.{line_behind, entry_line}
 
--- as many lines behind as told lines
-pub told-behind : (line more : ℕ) → min 4294967295 (told line + more) ≡ told (line + more)
-told-behind line more = omega arith
+-- ---- lines
 
--- the lines of one more entry
+-- one more thing gives the items that it has
 items-more : {X Y : Type 0} (f : X → List Y) (xs : List X) (place : ℕ) (x : X) → slice_get xs place ≡ Some x → length (flat_map f (take (place + 1) xs)) ≡ length (flat_map f (take place xs)) + length (f x)
 items-more f [] place x there = absurd (none-some x there)
-items-more f (y ∷ xs) zero x there = ?
-items-more f (y ∷ xs) (suc place) x there = ?
+items-more f (y ∷ xs) zero x there =
+    let same : length (f y) ≡ length (f x) = ap (λ z. length (f z)) (same_Some y x there) in
+    omega (arith, same, length-append (f y) [])
+items-more f (y ∷ xs) (suc place) x there =
+    let next : suc place + 1 ≡ suc (place + 1) = omega arith in
+    let whole : length (flat_map f (take (suc place + 1) (y ∷ xs))) ≡ length (f y ++ flat_map f (take (place + 1) xs)) = ap (λ (n : ℕ). length (flat_map f (take n (y ∷ xs)))) next in
+    omega (arith, whole, length-append (f y) (flat_map f (take (place + 1) xs)), length-append (f y) (flat_map f (take place xs)), items-more f xs place x there)
+
+module _ (d : Document) where
+  unfoldable items-to : ℕ → List Item
+  items-to place = flat_map (shared_items d.state.plan) (take place d.shared)
+
+  -- the first entry stands behind the answer, each next one behind the one before, and the leaves behind the last
+  pub line-first : entry_line d 0 ≡ line_behind (to_answer d)
+  line-first = omega (arith, length-append (to_answer d) [])
+
+  pub line-more : (place : ℕ) (given : Shared) → slice_get d.shared place ≡ Some given → entry_line d (place + 1) ≡ entry_line d place + length (shared_items d.state.plan given)
+  unfolding items-to
+  line-more place given there =
+      omega (arith, length-append (to_answer d) (items-to (place + 1)), length-append (to_answer d) (items-to place), items-more (shared_items d.state.plan) d.shared place given there)
+
+  pub line-last : (place : ℕ) → length d.shared ≤ place → entry_line d place ≡ line_behind (to_shared d)
+  line-last place past = ap (λ (l : List Shared). line_behind (to_answer d ++ flat_map (shared_items d.state.plan) l)) (take_all place d.shared past)
+
+  -- ---- entries
+
+  pub worked-none : (entries : List Entry) → entries ≡ [] → AreWorkedOf d 0 entries
+  worked-none entries none = record {
+    so_many = ap (λ (l : List Entry). length l) none;
+    each = λ place given entry there is. absurd (none-some entry (sym (ap (λ (l : List Entry). slice_get l place) none) ∙ is));
+  }
+
+  pub worked-more : (entries new : List Entry) (place : ℕ) (given : Shared) (entry : Entry) → AreWorkedOf d place entries → slice_get d.shared place ≡ Some given → IsEntryOf d place given entry → new ≡ entries ++ entry ∷ [] → AreWorkedOf d (place + 1) new
+  worked-more entries new place given entry worked there is pushed = record {
+    so_many = omega (arith, worked.so_many, ap (λ (l : List Entry). length l) pushed, length-append entries (entry ∷ []));
+    each = λ p g e here at. by p g e here (sym (ap (λ (l : List Entry). slice_get l p) pushed) ∙ at);
+  }
+    where
+      last : (g : Shared) (e : Entry) → slice_get d.shared place ≡ Some g → slice_get (entries ++ entry ∷ []) place ≡ Some e → IsEntryOf d place g e
+      last g e here at =
+          let same : given ≡ g = same_Some given g (sym there ∙ here) in
+          let own : slice_get (entries ++ entry ∷ []) place ≡ Some entry = ap (λ (n : ℕ). slice_get (entries ++ entry ∷ []) n) (sym worked.so_many) ∙ slice_get-last entries entry in
+          let one : entry ≡ e = same_Some entry e (sym own ∙ at) in
+          subst (λ (s : Shared). IsEntryOf d place s e) same (subst (λ (f : Entry). IsEntryOf d place given f) one is)
+
+      by : (p : ℕ) (g : Shared) (e : Entry) → slice_get d.shared p ≡ Some g → slice_get (entries ++ entry ∷ []) p ≡ Some e → IsEntryOf d p g e
+      by p g e here at =
+          elim (cases_lt p place) [
+            | inl less ↦ worked.each p g e here (sym (slice_get-kept entries entry p (omega (arith, less, worked.so_many))) ∙ at)
+            | inr more ↦
+                let within : p < length (entries ++ entry ∷ []) = slice_get_within (entries ++ entry ∷ []) p e at in
+                let same : place ≡ p = omega (arith, more, within, worked.so_many, length-append entries (entry ∷ [])) in
+                subst (λ (n : ℕ). slice_get d.shared n ≡ Some g → slice_get (entries ++ entry ∷ []) n ≡ Some e → IsEntryOf d n g e) same (last g e) here at
+          ]

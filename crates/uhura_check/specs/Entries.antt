@@ -48,7 +48,7 @@ pub record IsEntryOf (d : Document) (place : ℕ) (given : Shared) (entry : Entr
 
 -- so many entries are worked out
 pub record AreWorkedOf (d : Document) (count : ℕ) (entries : List Entry) : Type 0 where
-  pub count : length entries ≡ count
+  pub so_many : length entries ≡ count
   pub each : (place : ℕ) (given : Shared) (entry : Entry) →
       slice_get d.shared place ≡ Some given → slice_get entries place ≡ Some entry →
       IsEntryOf d place given entry
