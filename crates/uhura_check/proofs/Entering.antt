@@ -1,8 +1,8 @@
 -- Shared entries worked out one after another.
-use Rattle.std.proofs.Common.{◌≡◌, ℕ, zero, suc, ◌+◌, ◌≤◌, ◌<◌, List, [], ◌∷◌, ◌++◌, Option, None, Some, length, take, flat_map, refl, sym, ap, subst, ◌∙◌, inl, inr, arith}
+use Rattle.std.proofs.Common.{◌≡◌, ℕ, zero, suc, ◌+◌, ◌≤◌, ◌<◌, List, [], ◌∷◌, ◌++◌, Option, None, Some, length, take, get_or, flat_map, refl, sym, ap, subst, ◌∙◌, inl, inr, arith}
 use Rattle.std.specs.Prelude.{slice_get, min}
 use Rattle.std.proofs.lemmas.Bool.{cases_lt}
-use Rattle.std.proofs.lemmas.Option.{none-some, same_Some, slice_get_within}
+use Rattle.std.proofs.lemmas.Option.{none-some, same_Some, slice_get_within, slice_get-get_or}
 use Rattle.std.proofs.lemmas.List.{length-append, take_all}
 use Rattle.uhura_item.specs.declared.item.Item.{Item}
 use Rattle.uhura_cert.specs.declared.document.Shared.{Shared}
@@ -15,6 +15,10 @@ use Rattle.uhura_check.specs.Failure.{told}
 use Rattle.uhura_check.specs.Table.{line_behind, entry_line}
 
 -- ---- lines
+
+-- so many lines behind a told line, told
+told-more : (whole further line behind next edges : ℕ) → line ≡ told whole → behind ≡ min 4294967295 (line + 1) → next ≡ min 4294967295 (behind + edges) → further ≡ whole + (edges + 1) → next ≡ told further
+told-more whole further line behind next edges is after then more = omega (arith, is, after, then, more)
 
 -- one more thing gives the items that it has
 items-more : {X Y : Type 0} (f : X → List Y) (xs : List X) (place : ℕ) (x : X) → slice_get xs place ≡ Some x → length (flat_map f (take (place + 1) xs)) ≡ length (flat_map f (take place xs)) + length (f x)
@@ -73,3 +77,13 @@ module _ (d : Document) where
                 let same : place ≡ p = omega (arith, more, within, worked.so_many, length-append entries (entry ∷ [])) in
                 subst (λ (n : ℕ). slice_get d.shared n ≡ Some g → slice_get (entries ++ entry ∷ []) n ≡ Some e → IsEntryOf d n g e) same (last g e) here at
           ]
+
+-- what is read of the shared entries is there
+pub entry-there : (d : Document) (entries : List Shared) (place : ℕ) (given : Shared) → entries ≡ d.shared → place < length entries → given ≡ get_or entries place given → slice_get d.shared place ≡ Some given
+entry-there d entries place given same inside is =
+    ap (λ (l : List Shared). slice_get l place) (sym same) ∙ slice_get-get_or entries place given inside ∙ ap (λ (s : Shared). Some s) (sym is)
+
+-- the line of the next entry, as it is told
+pub line-next : (d : Document) (place : ℕ) (given : Shared) (line behind next edges : ℕ) → slice_get d.shared place ≡ Some given → line ≡ told (entry_line d place) → behind ≡ min 4294967295 (line + 1) → next ≡ min 4294967295 (behind + edges) →
+    edges + 1 ≡ length (shared_items d.state.plan given) → next ≡ told (entry_line d (place + 1))
+line-next d place given line behind next edges there is after then many = told-more (entry_line d place) (entry_line d (place + 1)) line behind next edges is after then (line-more d place given there ∙ ap (λ (n : ℕ). entry_line d place + n) (sym many))

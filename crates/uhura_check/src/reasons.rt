@@ -1,15 +1,19 @@
 //! What fails first among the conditions on the reason of a leaf.
-ghost use Rattle.std.specs.Prelude.{◌≡◌, ℕ, length, IfSome};
+ghost use Rattle.std.specs.Prelude.{◌≡◌, ℕ, ◌<◌, All, length, IfSome};
 ghost use Rattle.std.specs.Bool.{Decides};
 ghost use Rattle.uhura_choice.specs.Branch.{IsBranch, IsPrefix};
+ghost use Rattle.uhura_net.specs.Place.{HasPlace};
+ghost use Rattle.uhura_worst.specs.Filled.{IsTableOf};
 ghost use Rattle.uhura_shows.specs.Carried.{IsNegativeKeyedWalk};
 ghost use Rattle.uhura_shows.specs.Leaf as leaf;
 ghost use Rattle.uhura_shows.specs.Shows.{Answer, IsStuckBy};
+ghost use Rattle.uhura_cert.specs.declared.document.Reason.TheVariants as reason;
 ghost use Rattle.uhura_cert.specs.Document.{IsReasonOf, MayStand};
 ghost use Rattle.uhura_cert.specs.Order.{place_in};
 ghost use Rattle.uhura_check.specs.Confirmed.{entry_reason, reason_of};
+ghost use Rattle.uhura_check.specs.Edges.{AreFew};
 ghost use Rattle.uhura_check.specs.Entries.{IsFlowOf, IsWorkedOf, AreEntriesOf};
-ghost use Rattle.uhura_check.specs.Table.{head_line, reason_asks};
+ghost use Rattle.uhura_check.specs.Table.{entry_line, head_line, reason_asks};
 ghost use Rattle.uhura_check.specs.Failure.{told, Tells};
 
 use crate::Code;
@@ -27,6 +31,7 @@ use crate::walk::is_negative_walk;
 use uhura_cert::{Document, Reason, Shared};
 use uhura_choice::{Branch, Prefix};
 use uhura_command::State;
+use uhura_net::EdgeTable;
 use uhura_plan::EdgeKey;
 
 /// What the reason of a leaf with this prefix fails first, where it stands in its own line. What the document's shared
@@ -50,22 +55,76 @@ pub(crate) fn reason_failure(
         (reason_of document.now.shared reason.now)) result }
 {
     let state = state_of(document);
+    let table = &entries.table;
     match reason {
         Reason::Denied(veto) => denied_failure(state, prefix, *veto, own),
         Reason::Flow(edges) => {
-            let flow = flow_of(&entries.table, scratch, edges.as_slice());
-            flow_failure(state, answer, prefix, edges.as_slice(), flow, own, own)
+            own_flow_failure(state, table, scratch, answer, prefix, edges.as_slice(), own)
         }
-        Reason::Stuck(edges) => {
-            let negative = is_negative_walk(&entries.table, edges.as_slice());
-            stuck_failure(state, prefix, edges.as_slice(), negative, own)
-        }
-        Reason::Entry(entry) => {
-            let place = *entry as usize;
-            let given = &shared_of(document)[place];
-            entry_failure(state, answer, prefix, given, entries.entries[place], own)
-        }
+        Reason::Stuck(edges) => own_walk_failure(state, table, prefix, edges.as_slice(), own),
+        Reason::Entry(entry) => used_failure(document, entries, answer, prefix, *entry, own),
     }
+}
+
+/// What units on edges that stand behind the reason's own line fail first.
+fn own_flow_failure(
+    state: &State,
+    table: &EdgeTable,
+    scratch: &mut Scratch,
+    answer: &Option<(Branch, u128)>,
+    prefix: &Prefix,
+    pairs: &[(EdgeKey, u64)],
+    own: u32,
+) -> Option<Failure>
+    requires table { IsTableOf state.now table.now }
+    requires pairs { AreFew pairs.now }
+    requires prefix { IsPrefix state.now.plan.choices prefix.now }
+    requires answer { IfSome answer.now (λ a. IsBranch state.now.plan.choices a.0) }
+    ensures { (line : ℕ) → own ≡ told line →
+        Tells state.now answer.now (reason_asks prefix.now line line (leaf.Flow pairs.now)) result }
+{
+    let flow = flow_of(table, scratch, pairs);
+    flow_failure(state, answer, prefix, pairs, flow, own, own)
+}
+
+/// That edges that stand behind the reason's own line don't show a clash in the prefix, where they don't.
+fn own_walk_failure(
+    state: &State,
+    table: &EdgeTable,
+    prefix: &Prefix,
+    keys: &[EdgeKey],
+    own: u32,
+) -> Option<Failure>
+    requires table { IsTableOf state.now table.now }
+    requires keys { All HasPlace keys.now }
+    ensures { (answer : Answer) (line head : ℕ) → own ≡ told line →
+        Tells state.now answer (reason_asks prefix.now line head (leaf.Stuck keys.now)) result }
+{
+    let negative = is_negative_walk(table, keys);
+    stuck_failure(state, prefix, keys, negative, own)
+}
+
+/// What the use of an entry fails first.
+fn used_failure(
+    document: &Document,
+    entries: &Entries,
+    answer: &Option<(Branch, u128)>,
+    prefix: &Prefix,
+    entry: u32,
+    own: u32,
+) -> Option<Failure>
+    requires entries { AreEntriesOf document.now entries.now }
+    requires prefix { IsPrefix document.now.state.plan.choices prefix.now }
+    requires answer { IfSome answer.now (λ a. IsBranch document.now.state.plan.choices a.0) }
+    requires there { entry < length document.now.shared }
+    ensures { (line : ℕ) → own ≡ told line → Tells document.now.state answer.now
+        (reason_asks prefix.now line (entry_line document.now entry)
+        (reason_of document.now.shared (reason.Entry entry))) result }
+{
+    let place = entry as usize;
+    let given = &shared_of(document)[place];
+    let worked = entries.entries.as_slice()[place];
+    entry_failure(state_of(document), answer, prefix, given, worked, own)
 }
 
 /// That the veto in a place isn't a denial of the prefix, where it isn't.
