@@ -10,7 +10,8 @@ use Rattle.uhura_cert.specs.Document.{Document}
 use Rattle.uhura_cert.specs.Items.{shared_items, to_answer, to_shared}
 use Rattle.uhura_cert.proofs.Ordered.{slice_get-kept, slice_get-last}
 use Rattle.uhura_check.specs.declared.entries.Entry.{Entry}
-use Rattle.uhura_check.specs.Entries.{IsEntryOf, AreWorkedOf}
+use Rattle.uhura_check.specs.declared.entries.Entries.{Entries}
+use Rattle.uhura_check.specs.Entries.{IsEntryOf, AreWorkedOf, AreEntriesOf}
 use Rattle.uhura_check.specs.Failure.{told}
 use Rattle.uhura_check.specs.Table.{line_behind, entry_line}
 
@@ -87,3 +88,11 @@ entry-there d entries place given same inside is =
 pub line-next : (d : Document) (place : ℕ) (given : Shared) (line behind next edges : ℕ) → slice_get d.shared place ≡ Some given → line ≡ told (entry_line d place) → behind ≡ min 4294967295 (line + 1) → next ≡ min 4294967295 (behind + edges) →
     edges + 1 ≡ length (shared_items d.state.plan given) → next ≡ told (entry_line d (place + 1))
 line-next d place given line behind next edges there is after then many = told-more (entry_line d place) (entry_line d (place + 1)) line behind next edges is after then (line-more d place given there ∙ ap (λ (n : ℕ). entry_line d place + n) (sym many))
+
+-- what is read of the entries is the entry in its place
+pub entry-used : (d : Document) (entries : Entries) (shared : List Shared) (items : List Entry) (place : ℕ) (given : Shared) (other : Entry) → AreEntriesOf d entries → shared ≡ d.shared → items ≡ entries.entries.items → place < length d.shared →
+    given ≡ get_or shared place given → IsEntryOf d place given (get_or items place other)
+entry-used d entries shared items place given other are same listed inside is =
+    let there : slice_get d.shared place ≡ Some given = entry-there d shared place given same (omega (arith, inside, ap (λ (l : List Shared). length l) same)) is in
+    let within : place < length entries.entries.items = omega (arith, inside, are.worked.so_many) in
+    are.worked.each place given (get_or items place other) there (slice_get-get_or entries.entries.items place other within ∙ ap (λ (l : List Entry). Some (get_or l place other)) (sym listed))

@@ -1,5 +1,5 @@
 -- The edges of a document have places, and those with units are few.
-use Rattle.std.proofs.Common.{◌≡◌, ℕ, zero, suc, ◌+◌, ◌*◌, ◌<◌, ◌≤◌, Bool, true, false, List, [], ◌∷◌, Option, None, Some, length, refl, subst, arith, cond}
+use Rattle.std.proofs.Common.{◌≡◌, ℕ, zero, suc, ◌+◌, ◌*◌, ◌<◌, ◌≤◌, Bool, true, false, List, [], ◌∷◌, Option, None, Some, length, refl, subst, arith, cond, not}
 use Rattle.std.specs.Prelude.{All, IsSome, slice_get, ◌==◌}
 use Rattle.std.specs.List.{AllByRecursion, position_or_len}
 use Rattle.std.proofs.lemmas.Bool.Decides.{Decides-eqb}
@@ -54,11 +54,11 @@ edges-placed plan keys sound are = All-weaker (IsEdgeOf plan) HasPlace (λ key t
 
 position-few : {X : Type 0} (test : X → Bool) (xs : List X) → position_or_len test xs ≤ length xs
 position-few test [] = omega arith
-position-few test (x ∷ xs) = by (test x) (position-few test xs)
+position-few test (x ∷ xs) = by (not (test x)) (position-few test xs)
   where
-    by : (b : Bool) → position_or_len test xs ≤ length xs → cond b 0 (1 + position_or_len test xs) ≤ length (x ∷ xs)
-    by true rest = omega arith
-    by false rest = omega (arith, rest)
+    by : (b : Bool) → position_or_len test xs ≤ length xs → cond b (1 + position_or_len test xs) 0 ≤ length (x ∷ xs)
+    by true rest = omega (arith, rest)
+    by false rest = omega arith
 
 item-few : (plan : Lists) (of : Item) → IsSound plan → IsItemOf plan of → item_place (place_in plan) of + 1 ≤ REQUIREMENTS + UNCERTAINS
 item-few plan (item.Requirement slot) sound there = omega (arith, position-few (λ (r : Requirement). r.slot == slot) plan.requirements, sound.counts.requirements)

@@ -1,4 +1,4 @@
-use Rattle.std.proofs.Common.{◌≡◌, ◌+◌, ℕ, List, Some, length, slice_get, get_or, sym, ap, subst, ◌∙◌, arith}
+use Rattle.std.proofs.Common.{◌≡◌, ◌+◌, ◌≤◌, ℕ, List, Some, length, slice_get, get_or, sym, ap, subst, ◌∙◌, arith}
 use Rattle.std.specs.Prelude.{min}
 use Rattle.std.proofs.lemmas.Option.{slice_get-get_or}
 use Rattle.uhura_cert.specs.declared.document.Shared.{Shared}
@@ -47,5 +47,5 @@ returns-clause-entries c =
 pub returns-clause-line : goal.returns-clause-line
 returns-clause-line c =
     let d = c.args.document.now in
-    let past = omega (arith, c.loop-place-test.false, ap (λ (l : List Shared). length l) c.shared_of-shared.ensures.shared) in
+    let past : length d.shared ≤ c.loop-place.place = omega (arith, c.loop-place-test.false, ap (λ (l : List Shared). length l) c.shared_of-shared.ensures.shared) in
     c.loop-place.invariant.line ∙ ap told (line-last d c.loop-place.place past)

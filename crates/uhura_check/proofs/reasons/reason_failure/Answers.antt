@@ -47,3 +47,8 @@ returns-in-Stuck c = λ line own.
     (subst (λ (l : List EdgeKey). Tells d.state c.args.answer.now (reason_asks c.args.prefix.now line line (leaf.Stuck l)) c.own_walk_failure.result) c.as_slice-in-Stuck.ensures
     (subst (λ (s : State). Tells s c.args.answer.now (reason_asks c.args.prefix.now line line (leaf.Stuck c.as_slice-in-Stuck.result.now)) c.own_walk_failure.result) c.state_of-state.ensures.state
     (c.own_walk_failure.ensures c.args.answer.now line line own)))
+
+pub returns-in-Entry : goal.returns-in-Entry
+returns-in-Entry c = λ line own.
+    let d = c.args.document.now in
+    subst (λ (r : Reason). Tells d.state c.args.answer.now (reason_asks c.args.prefix.now line (head_line d line r) (reason_of d.shared r)) c.used_failure.result) (sym c.in-Entry.is) (c.used_failure.ensures line own)
