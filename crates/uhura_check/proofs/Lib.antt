@@ -11,6 +11,17 @@ pub mod Lengths
 pub mod Failing
 pub mod Rooms
 pub mod Firsts
+pub mod Things
+pub mod Adding
+pub mod Ledgers
+pub mod Balances
+pub mod Values
+pub mod Walks
+pub mod Reaching
+pub mod Carrying
+pub mod Placed
+pub mod Entering
+pub mod ReasonTelling
 pub mod Telling
 pub mod Costs
 pub mod Meetings

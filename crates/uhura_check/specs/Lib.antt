@@ -5,6 +5,9 @@ pub mod Failure
 pub mod Examples
 pub mod Picks
 pub mod Firsts
+pub mod Edges
+pub mod Ledger
+pub mod Reaches
 pub mod Units
 pub mod Walked
 pub mod Entries

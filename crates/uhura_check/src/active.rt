@@ -1,5 +1,6 @@
 //! What is active after some picks.
-ghost use Rattle.std.specs.Prelude.{◌≡◌};
+ghost use Rattle.std.specs.Prelude.{◌≡◌, All, IsTrue};
+ghost use Rattle.std.specs.Bool.{Decides};
 ghost use Rattle.uhura_worst.specs.Edges.{is_active_item, is_active_edge, item_of};
 
 use uhura_choice::{Prefix, holds};
@@ -24,6 +25,19 @@ pub fn is_active_edge(plan: &Plan, prefix: &Prefix, key: EdgeKey) -> bool
     ensures { result ≡ is_active_edge plan.now prefix.now key }
 {
     is_active_item(plan, prefix, item_of(key))
+}
+
+/// Whether the tables of all edges' items are active.
+pub(crate) fn are_active(plan: &Plan, prefix: &Prefix, keys: &[EdgeKey]) -> bool
+    ensures { Decides result
+        (All (λ key. IsTrue (is_active_edge plan.now prefix.now key)) keys.now) }
+{
+    for place in 0..keys.len() {
+        if !is_active_edge(plan, prefix, keys[place]) {
+            return false;
+        }
+    }
+    true
 }
 
 /// The item whose table has the edge.

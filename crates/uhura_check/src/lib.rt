@@ -5,16 +5,21 @@
 #![tactic(auto)]
 
 mod active;
+mod balance;
 mod checking;
 mod cost;
 mod covering;
 mod denied;
+mod edges;
+mod enough;
 mod entries;
 pub mod examples;
 mod failure;
+mod flow;
 mod keys;
 pub mod laws;
 mod leaves;
+mod ledger;
 mod lines;
 mod meeting;
 mod parts;
@@ -24,6 +29,8 @@ mod refusal;
 mod room;
 mod stating;
 mod units;
+mod value;
+mod walk;
 
 pub use checking::check;
 pub use active::{is_active_edge, is_active_item};
@@ -35,4 +42,4 @@ pub use meeting::first_not_met;
 pub use picks::picked_branch;
 pub use refusal::{CheckRefusal, Code};
 pub use room::{first_without_room, has_room};
-pub use units::{first_not_carried, may_carry};
+

@@ -23,7 +23,7 @@ returns-in-Err c =
     let here : drop c.loop-place.place d.leaves ≡ leaf ∷ drop (c.loop-place.place + 1) d.leaves = drop-there d.leaves c.leaves_of-leaves.result.now c.loop-place.place leaf c.leaves_of-leaves.ensures.leaves (omega (arith, c.loop-place-test.true)) c.index-leaves-place.is in
     stops-here d answer c.loop-place.place c.loop-place.reached under leaf (drop (c.loop-place.place + 1) d.leaves) here c.in-Err.failure
     (subst (λ r. MatchResult r (IsPassed d answer under.before under.line leaf) (IsToldFirst d.state answer (leaf_asks d under.before under.line leaf))) c.in-Err.is
-    (c.in_ok-further.ensures under.before under.line under.covers under.is_told))
+    (c.pass_leaf.ensures under.before under.line under.covers under.is_told))
 
 pub loop-place-preserved : goal.loop-place-preserved
 loop-place-preserved c =
@@ -34,7 +34,7 @@ loop-place-preserved c =
     let here : drop c.loop-place.place d.leaves ≡ leaf ∷ drop (c.loop-place.place + 1) d.leaves = drop-there d.leaves c.leaves_of-leaves.result.now c.loop-place.place leaf c.leaves_of-leaves.ensures.leaves (omega (arith, c.loop-place-test.true)) c.index-leaves-place.is in
     goes-on d answer c.loop-place.place c.loop-place.reached under leaf (drop (c.loop-place.place + 1) d.leaves) here (c.loop-place.place + 1) c.in-Ok.further refl
     (subst (λ r. MatchResult r (IsPassed d answer under.before under.line leaf) (IsToldFirst d.state answer (leaf_asks d under.before under.line leaf))) c.in-Ok.is
-    (c.in_ok-further.ensures under.before under.line under.covers under.is_told))
+    (c.pass_leaf.ensures under.before under.line under.covers under.is_told))
 
 pub returns : goal.returns
 returns c =

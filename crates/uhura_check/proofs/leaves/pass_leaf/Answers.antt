@@ -41,7 +41,7 @@ returns-in-Some-2 c = λ before line covers is_told.
     reason-told d answer before line leaf c.in-Some-2.failure next.next
     (subst (λ (ps : List Pick). Tells d.state answer (reason_asks ps (line + 1) (head_line d (line + 1) leaf.reason) (reason_of d.shared leaf.reason)) (Some c.in-Some-2.failure)) next.picked
     (subst (λ (found : Option Failure). Tells d.state answer (reason_asks c.in-Some.prefix (line + 1) (head_line d (line + 1) leaf.reason) (reason_of d.shared leaf.reason)) found) c.in-Some-2.is
-    (c.in_ok-failure.ensures (line + 1) own)))
+    (c.reason_failure.ensures (line + 1) own)))
 
 pub returns-in-None : goal.returns-in-None
 returns-in-None c = λ before line covers is_told.
@@ -58,5 +58,5 @@ returns-in-None c = λ before line covers is_told.
     leaf-passed d answer before line leaf (record { next = c.next_branch_behind.result; line = c.line_after-in-None.result }) c.args.reached.now.next c.plan_of-plan.ensures.fits.state.plan covers next.next
     (subst (λ (ps : List Pick). Tells d.state answer (reason_asks ps (line + 1) (head_line d (line + 1) leaf.reason) (reason_of d.shared leaf.reason)) None) next.picked
     (subst (λ (found : Option Failure). Tells d.state answer (reason_asks c.in-Some.prefix (line + 1) (head_line d (line + 1) leaf.reason) (reason_of d.shared leaf.reason)) found) c.in-None.is
-    (c.in_ok-failure.ensures (line + 1) own)))
+    (c.reason_failure.ensures (line + 1) own)))
     behind (omega (arith, c.line_after-in-None.ensures, c.line_after.ensures, c.line_after-own.ensures, c.edge_lines.ensures d.state, is_told))
