@@ -1,10 +1,10 @@
 -- Units balance exactly where no end of an edge is due anything.
-use Rattle.std.proofs.Common.{◌≡◌, ℕ, ◌+◌, ◌<◌, ◌≤◌, ℤ, pos, ◌+ℤ◌, ◌-ℤ◌, Bool, true, false, List, [], ◌∷◌, Option, length, get_or, refl, sym, ap, subst, ◌∙◌, inl, inr, arith}
-use Rattle.std.specs.Prelude.{◌⊎◌, ◌==◌, if◌then◌else◌, All, sum_by, unwrap_or}
+use Rattle.std.proofs.Common.{◌≡◌, ℕ, ◌<◌, ◌≤◌, ℤ, pos, ◌-ℤ◌, Bool, List, [], ◌∷◌, Option, get_or, refl, ap, inl, inr, arith}
+use Rattle.std.specs.Prelude.{◌==◌, if◌then◌else◌, All, unwrap_or}
 use Rattle.std.specs.Bool.{Decides}
 use Rattle.std.proofs.lemmas.Int.{ints}
 use Rattle.std.proofs.lemmas.Bool.{cases_lt}
-use Rattle.std.proofs.lemmas.List.Elements.{All-nil, All-cons, All-head, All-tail}
+use Rattle.std.proofs.lemmas.List.Elements.{All-head, All-tail}
 use Rattle.std.proofs.lemmas.List.Sums.{sum_by-cons}
 use Rattle.uhura_plan.specs.declared.key.EdgeKey.{EdgeKey}
 use Rattle.uhura_net.specs.declared.edge.TheConstants.{NODES}
@@ -15,8 +15,8 @@ use Rattle.uhura_veto.specs.State.{State}
 use Rattle.uhura_worst.specs.Filled.{IsTableOf}
 use Rattle.uhura_shows.specs.Carried.{keyed_edge, units_into, units_out_of}
 use Rattle.uhura_check.specs.Conditions.{Balances}
-use Rattle.uhura_check.specs.Edges.{edge_in, AreFew, IsSmallEdge, sum_of}
-use Rattle.uhura_check.specs.Ledger.{due_at, brought, brought_by, IsLedgerOf, IsClear, IsEven}
+use Rattle.uhura_check.specs.Edges.{edge_in, IsSmallEdge, sum_of}
+use Rattle.uhura_check.specs.Ledger.{due_at, brought, brought_by, IsLedgerOf, IsEven}
 use Rattle.uhura_check.proofs.Ledgers.{IsApart, apart-due, even-clear}
 
 -- a table of a state has its edges

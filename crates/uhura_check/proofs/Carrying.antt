@@ -1,6 +1,6 @@
 -- The first thing that isn't so in either of two ways is the earlier of the first in each.
-use Rattle.std.proofs.Common.{◌≡◌, ℕ, zero, suc, ◌≤◌, List, [], ◌∷◌, take, refl, sym, ap, subst, inl, inr, arith}
-use Rattle.std.specs.Prelude.{◌⊎◌, All, min}
+use Rattle.std.proofs.Common.{◌≡◌, ℕ, zero, suc, ◌≤◌, List, [], ◌∷◌, take, refl, ap, subst, inl, inr, arith}
+use Rattle.std.specs.Prelude.{All, min}
 use Rattle.std.proofs.lemmas.Bool.{cases_lt}
 use Rattle.std.proofs.lemmas.List.Elements.{All-take}
 use Rattle.uhura_check.specs.Firsts.{IsFirstNot}

@@ -12,7 +12,7 @@ use Rattle.uhura_net.specs.declared.edge.TheConstants.{NODES}
 use Rattle.uhura_net.specs.declared.edge.Edge.{Edge}
 use Rattle.uhura_check.specs.Edges.{edge_in, IsWithin, IsSmallEdge, AreFew, most_edges, sum_of}
 use Rattle.uhura_check.specs.Ledger.{due_at, brought, brought_by, IsLedgerOf, IsClear, IsEven}
-use Rattle.uhura_check.proofs.Adding.{IsAddedUp, added_up-none, added_up-more, added_up-all}
+use Rattle.uhura_check.proofs.Adding.{IsAddedUp, added_up-more}
 
 -- units at a node alone
 abbrev pub units_at : ℕ → ℕ → ℕ → ℕ

@@ -1,7 +1,7 @@
 -- The edges of a document have places, and those with units are few.
-use Rattle.std.proofs.Common.{◌≡◌, ℕ, zero, suc, ◌+◌, ◌*◌, ◌<◌, ◌≤◌, Bool, true, false, List, [], ◌∷◌, Option, None, Some, length, refl, subst, arith, cond, not}
+use Rattle.std.proofs.Common.{◌≡◌, ℕ, zero, suc, ◌+◌, ◌<◌, ◌≤◌, Bool, true, false, List, [], ◌∷◌, Option, None, Some, length, refl, subst, arith, cond, not}
 use Rattle.std.specs.Prelude.{All, IsSome, slice_get, ◌==◌}
-use Rattle.std.specs.List.{AllByRecursion, position_or_len}
+use Rattle.std.specs.List.{position_or_len}
 use Rattle.std.proofs.lemmas.Bool.Decides.{Decides-eqb}
 use Rattle.std.proofs.lemmas.Option.{none-some, same_Some}
 use Rattle.std.proofs.lemmas.List.Elements.{All-from_recursion, All-weaker, All-head, All-tail}
@@ -10,7 +10,6 @@ use Rattle.uhura_plan.specs.declared.key.Side.{Side}
 use Rattle.uhura_plan.specs.declared.key.Side.TheVariants.{Lower, Upper}
 use Rattle.uhura_plan.specs.declared.key.Item.{Item}
 use Rattle.uhura_plan.specs.declared.key.Item.TheVariants as item
-use Rattle.uhura_plan.specs.declared.key.SideKey.{SideKey}
 use Rattle.uhura_plan.specs.declared.key.EdgeKey.{EdgeKey}
 use Rattle.uhura_plan.specs.declared.key.EdgeKey.TheVariants.{Loose, Firm, Order, Steep}
 use Rattle.uhura_plan.specs.declared.requirement.Requirement.{Requirement}
@@ -23,7 +22,7 @@ use Rattle.uhura_worst.proofs.SoundItems.{Contains-found, sound_requirement}
 use Rattle.uhura_worst.proofs.FirstItems.{passes}
 use Rattle.uhura_cert.specs.declared.document.Shared.{Shared}
 use Rattle.uhura_cert.specs.declared.document.Shared.TheVariants as shared
-use Rattle.uhura_cert.specs.Order.{place_in, item_place, side_number, first_edge, edge_place, IsEdgeOf, Rises}
+use Rattle.uhura_cert.specs.Order.{place_in, item_place, side_number, edge_place, IsEdgeOf, Rises}
 use Rattle.uhura_cert.specs.Document.{Document, IsDocument, AreEdgeUnits, AreEdges, IsShared, AreShared}
 use Rattle.uhura_check.specs.Edges.{AreFew, most_edges}
 use Rattle.uhura_check.specs.Entries.{HasPlaces}

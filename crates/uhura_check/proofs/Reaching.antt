@@ -1,8 +1,7 @@
 -- When what is shown of a prefix is enough.
-use Rattle.std.proofs.Common.{◌≡◌, ℕ, ◌+◌, ℤ, pos, Bool, List, Option, None, Some, sym, ap, subst, inl, inr, [], ◌++◌, append-nil}
-use Rattle.std.specs.Prelude.{◌⊎◌, ◌≤ℤ◌, ◌+ℤ◌}
+use Rattle.std.proofs.Common.{ℕ, ℤ, pos, Bool, List, subst, inl, inr}
+use Rattle.std.specs.Prelude.{◌⊎◌, ◌≤ℤ◌}
 use Rattle.std.specs.Bool.{Decides}
-use Rattle.std.proofs.lemmas.Int.{ints}
 use Rattle.uhura_choice.specs.declared.prefix.Pick.{Pick}
 use Rattle.uhura_choice.specs.Branch.{IsEarlier}
 use Rattle.uhura_choice.specs.Order.{IsFrontOf}

@@ -1,5 +1,5 @@
 -- What is told of some conditions is told of more of them.
-use Rattle.std.proofs.Common.{◌≡◌, ℕ, ◌+◌, List, [], ◌∷◌, ◌++◌, None, Some, Option, refl, sym, subst}
+use Rattle.std.proofs.Common.{◌≡◌, ℕ, ◌+◌, List, [], ◌∷◌, ◌++◌, None, Some, Option, sym, subst}
 use Rattle.std.specs.Prelude.{All}
 use Rattle.std.proofs.lemmas.List.Elements.{All-append, All-cons, All-nil}
 use Rattle.uhura_veto.specs.State.{State}
@@ -10,7 +10,6 @@ use Rattle.uhura_check.specs.Conditions.{Condition, Holds, code_of}
 use Rattle.uhura_check.specs.Firsts.{IsFirstNot}
 use Rattle.uhura_check.specs.Table.{Asked, each_line, IsKept, FailsFirst}
 use Rattle.uhura_check.specs.Failure.{told, IsToldFirst, Tells}
-use Rattle.uhura_check.proofs.Asks.{each-asked}
 use Rattle.uhura_check.proofs.Failing.{fails-left, fails-right, fails-head, each-fails}
 
 module _ (state : State) (answer : Answer) where

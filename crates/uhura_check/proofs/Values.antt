@@ -1,5 +1,5 @@
 -- What units on edges are worth.
-use Rattle.std.proofs.Common.{◌≡◌, ℕ, ◌*◌, ℤ, pos, ◌+ℤ◌, List, [], ◌∷◌, Option, refl, ap, ◌∙◌, arith}
+use Rattle.std.proofs.Common.{◌≡◌, ℕ, ℤ, pos, List, [], ◌∷◌, Option, refl, ap, arith}
 use Rattle.std.specs.Prelude.{◌*ℤ◌, All}
 use Rattle.std.proofs.lemmas.Int.{ints}
 use Rattle.std.proofs.lemmas.List.Elements.{All-head, All-tail}

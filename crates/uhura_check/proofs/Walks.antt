@@ -1,15 +1,15 @@
 -- Walks along the edges of keys.
-use Rattle.std.proofs.Common.{◌≡◌, ◌≢◌, ℕ, ◌+◌, ◌<◌, ◌≤◌, ℤ, pos, ◌+ℤ◌, Bool, true, false, List, [], ◌∷◌, Option, length, map, get_or, drop, refl, sym, ap, subst, ◌∙◌, arith, add-one, drop-cons}
-use Rattle.std.specs.Prelude.{All, IsSome, is_some, IsTrue, IsFalse, ◌<ℤ◌}
+use Rattle.std.proofs.Common.{◌≡◌, ◌≢◌, ℕ, ◌+◌, ◌<◌, ◌≤◌, ℤ, pos, ◌+ℤ◌, Bool, List, [], ◌∷◌, Option, length, map, get_or, drop, refl, sym, ap, subst, ◌∙◌, add-one, drop-cons}
+use Rattle.std.specs.Prelude.{All, ◌<ℤ◌}
 use Rattle.std.specs.Bool.{Decides}
 use Rattle.std.proofs.lemmas.List.Elements.{All-head, All-tail}
 use Rattle.std.proofs.Math.ListN.{drop_of_length-le}
 use Rattle.uhura_plan.specs.declared.key.EdgeKey.{EdgeKey}
 use Rattle.uhura_net.specs.declared.edge.Edge.{Edge}
-use Rattle.uhura_net.specs.Place.{HasPlace, is_loose_key}
+use Rattle.uhura_net.specs.Place.{HasPlace}
 use Rattle.uhura_net.specs.Walk.{Leads, IsClosedWalk, bounds_of}
 use Rattle.uhura_veto.specs.State.{State}
-use Rattle.uhura_worst.specs.Filled.{entry_at, IsTableOf}
+use Rattle.uhura_worst.specs.Filled.{IsTableOf}
 use Rattle.uhura_shows.specs.Carried.{keyed_edge, IsFirmKey, IsNegativeKeyedWalk}
 use Rattle.uhura_check.specs.Edges.{edge_in, sum_of}
 use Rattle.uhura_check.proofs.Balances.{edge-keyed}

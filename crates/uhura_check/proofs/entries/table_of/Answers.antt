@@ -1,4 +1,4 @@
-use Rattle.std.proofs.Common.{◌≡◌, sym, ap, subst, ◌∙◌}
+use Rattle.std.proofs.Common.{subst}
 use Rattle.uhura_veto.specs.State.{State}
 use Rattle.uhura_worst.specs.Filled.{IsTableOf}
 use Rattle.uhura_check.proofs.entries.table_of.Goals as goal

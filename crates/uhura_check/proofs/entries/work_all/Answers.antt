@@ -1,14 +1,10 @@
-use Rattle.std.proofs.Common.{◌≡◌, ◌+◌, ◌≤◌, ℕ, List, Some, length, slice_get, get_or, sym, ap, subst, ◌∙◌, arith}
-use Rattle.std.specs.Prelude.{min}
-use Rattle.std.proofs.lemmas.Option.{slice_get-get_or}
+use Rattle.std.proofs.Common.{◌≡◌, ◌≤◌, ℕ, List, Some, length, slice_get, sym, ap, subst, ◌∙◌, arith}
 use Rattle.uhura_cert.specs.declared.document.Shared.{Shared}
-use Rattle.uhura_check.specs.declared.entries.Worked.{Worked}
 use Rattle.uhura_check.specs.declared.entries.Entry.{Entry}
-use Rattle.uhura_check.specs.Entries.{HasPlaces, AreWorkedOf}
+use Rattle.uhura_check.specs.Entries.{AreWorkedOf}
 use Rattle.uhura_check.specs.Failure.{told}
-use Rattle.uhura_check.specs.Table.{entry_line}
 use Rattle.uhura_check.proofs.Placed.{document-places}
-use Rattle.uhura_check.proofs.Entering.{line-first, line-more, line-last, line-next, worked-none, worked-more, entry-there}
+use Rattle.uhura_check.proofs.Entering.{line-first, line-last, line-next, worked-none, worked-more, entry-there}
 use Rattle.uhura_check.proofs.entries.work_all.Goals as goal
 
 pub loop-place-init : goal.loop-place-init

@@ -1,4 +1,4 @@
-use Rattle.std.proofs.Common.{◌∙◌, arith}
+use Rattle.std.proofs.Common.{◌∙◌}
 use Rattle.uhura_check.proofs.Things.{some_pair}
 use Rattle.uhura_check.proofs.Ledgers.{cleared-none, cleared-more, cleared-all}
 use Rattle.uhura_check.proofs.ledger.clear.Goals as goal

@@ -1,7 +1,6 @@
-use Rattle.std.proofs.Common.{◌≡◌, ◌∙◌, ap, arith, pos, ◌-ℤ◌, ◌+ℤ◌, ℤ}
+use Rattle.std.proofs.Common.{arith}
 use Rattle.std.proofs.lemmas.Int.{ints}
-use Rattle.uhura_check.specs.Ledger.{due_at}
-use Rattle.uhura_check.proofs.Ledgers.{due-more, due-less, units_at, units_at-few}
+use Rattle.uhura_check.proofs.Ledgers.{due-more, due-less, units_at-few}
 use Rattle.uhura_check.proofs.ledger.enter.Goals as goal
 
 pub take-requires-clause-due : goal.take-requires-clause-due

@@ -1,4 +1,4 @@
-use Rattle.std.proofs.Common.{◌+ℤ◌, ◌∙◌, ℕ, ap, sym, subst, get_or}
+use Rattle.std.proofs.Common.{◌+ℤ◌, ◌∙◌, ℕ, ap, subst, get_or}
 use Rattle.std.specs.Prelude.{All}
 use Rattle.std.proofs.lemmas.List.{take_all}
 use Rattle.std.proofs.lemmas.List.Elements.{All-more}

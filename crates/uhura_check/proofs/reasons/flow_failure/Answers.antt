@@ -1,4 +1,4 @@
-use Rattle.std.proofs.Common.{rules, ◌≡◌, SFits, to_z, of_z, true, false, true≢false, ◌+◌, refl, sym, ◌∙◌, arith}
+use Rattle.std.proofs.Common.{rules, ◌≡◌, SFits, true, false, true≢false, ◌+◌, refl, sym, ◌∙◌, arith}
 use Rattle.std.specs.Int.{w128}
 use Rattle.std.proofs.lemmas.Int.{to_z-of_z}
 use Rattle.uhura_check.specs.declared.refusal.Code.TheVariants as code

@@ -1,4 +1,4 @@
-use Rattle.std.proofs.Common.{◌≡◌, ℕ, List, All, sym, ap, subst, ◌∙◌}
+use Rattle.std.proofs.Common.{ℕ, List, All, sym, subst}
 use Rattle.uhura_plan.specs.declared.key.EdgeKey.{EdgeKey}
 use Rattle.uhura_net.specs.Place.{HasPlace}
 use Rattle.uhura_veto.specs.State.{State}

@@ -1,4 +1,4 @@
-use Rattle.std.proofs.Common.{◌≡◌, ◌<◌, Option, Some, slice_get, length, [], get_or, sym, ap, subst, ◌∙◌, arith, List}
+use Rattle.std.proofs.Common.{◌≡◌, ◌<◌, Option, Some, slice_get, length, [], get_or, sym, ap, subst, arith, List}
 use Rattle.std.specs.Option.{option_map_or}
 use Rattle.uhura_veto.specs.State.{State}
 use Rattle.uhura_shows.specs.Leaf as leaf

@@ -1,10 +1,10 @@
-use Rattle.std.proofs.Common.{◌≡◌, ◌+ℤ◌, ◌-ℤ◌, ◌*ℤ◌, get_or, ℕ, ℤ, pos, to_z, of_z, sym, ap, ◌∙◌, arith}
+use Rattle.std.proofs.Common.{◌≡◌, ◌+ℤ◌, ◌-ℤ◌, ◌*ℤ◌, get_or, pos, to_z, of_z, sym, ap, ◌∙◌, arith}
 use Rattle.std.specs.Prelude.{neg_ℤ}
 use mir.Syntax.{w128}
 use Rattle.std.proofs.lemmas.Int.{ints}
 use Rattle.uhura_net.specs.declared.edge.Edge.{Edge}
 use Rattle.uhura_shows.specs.Carried.{value_of_pairs, weighed_pairs}
-use Rattle.uhura_check.specs.Edges.{sum_of, greatest_worth}
+use Rattle.uhura_check.specs.Edges.{greatest_worth}
 use Rattle.uhura_check.proofs.Things.{some_pair}
 use Rattle.uhura_check.proofs.Adding.{added_up-more, added_up-all}
 use Rattle.uhura_check.proofs.Values.{worth_in, sum-weighed}
