@@ -1,9 +1,10 @@
 -- How a check goes on from leaf to leaf.
 use Rattle.std.proofs.Common.{◌≡◌, ℕ, zero, suc, ◌+◌, ◌<◌, ◌≤◌, List, [], ◌∷◌, ◌++◌, map, length, drop, get_or, None, Some, Option, true, true≢false, refl, sym, ap, ◌∙◌, subst, arith, append_assoc, append-nil}
-use Rattle.std.specs.Prelude.{All, flat_map, IsSome, IfSome}
+use Rattle.std.specs.Prelude.{All, flat_map, IsSome, IfSome, MatchOption}
 use Rattle.std.specs.Ordering.{is_ne}
 use Rattle.std.specs.declared.cmp.Ordering.{Ordering}
 use Rattle.std.specs.declared.cmp.Ordering.TheVariants.{Less, Equal, Greater}
+use Rattle.std.proofs.Math.Seq.{drop-cons}
 use Rattle.std.proofs.lemmas.Option.{same_Some}
 use Rattle.std.proofs.lemmas.List.{length-append}
 use Rattle.std.proofs.lemmas.List.Elements.{All-nil, All-cons}
@@ -39,6 +40,10 @@ use Rattle.uhura_check.proofs.Turns.{uncovered-next, next-uncovered, next-step}
 drop-zero : {X : Type 0} (xs : List X) → drop 0 xs ≡ xs
 drop-zero [] = refl
 drop-zero (x ∷ xs) = refl
+
+-- what is so of a plan and some picks is so of the same ones
+pub moved : (P : Lists → List Pick → Type 0) (plan same : Lists) (picks own : List Pick) → plan ≡ same → picks ≡ own → P plan picks → P same own
+moved P plan same picks own is are holding = subst (λ (p : Lists). P p own) is (subst (λ (ps : List Pick). P plan ps) are holding)
 
 -- ---- what comes next
 
@@ -192,3 +197,13 @@ module _ (d : Document) (answer : Answer) where
           by None some covers all = absurd (true≢false (sym some))
           by (Some branch) some covers all =
               next-not_begun d.state.plan.choices under.before branch covers (subst (λ (ps : List (List Pick)). CoversAll d.state.plan.choices ps) (sym whole) all branch covers.next_branch)
+
+      pub misses : (found : Option Failure) → MatchOption found (reached.next ≡ None) (IsMissingAt reached) → Tells d.state answer (rest_asks d [] (line_behind (to_shared d)) d.leaves) found
+      misses None ended = misses-none ended
+      misses (Some f) missing = misses-one f missing
+
+-- what is dropped from a place on begins with what stands there
+pub drop-there : {X : Type 0} (xs given : List X) (place : ℕ) (x : X) → given ≡ xs → place < length given → x ≡ get_or given place x → drop place xs ≡ x ∷ drop (place + 1) xs
+drop-there xs given place x same below is =
+    let next : suc place ≡ place + 1 = omega arith in
+    drop-cons xs place x (omega (arith, below, ap length same)) ∙ ap (λ y. y ∷ drop (suc place) xs) (sym (is ∙ ap (λ l. get_or l place x) same)) ∙ ap (λ (n : ℕ). x ∷ drop n xs) next

@@ -1,11 +1,13 @@
 -- What a proposal fails first.
 use Rattle.std.proofs.Common.{◌≡◌, ℕ, ◌+◌, ◌<◌, List, [], ◌∷◌, ◌++◌, length, None, Some, Option, refl, sym, ap, ◌∙◌, subst, arith}
-use Rattle.std.specs.Prelude.{ℤ, All, min, ◌^◌}
-use Rattle.std.proofs.lemmas.List.Elements.{All-nil, All-cons, All-append}
+use Rattle.std.specs.Prelude.{ℤ, All, min, ◌^◌, IfSome, option_map}
+use Rattle.std.proofs.lemmas.List.Elements.{All-head}
 use Rattle.std.proofs.lemmas.Option.{slice_get_within}
 use Rattle.uhura_plan.specs.Sound.{IsSound}
 use Rattle.uhura_plan.specs.declared.key.SideKey.{SideKey}
+use Rattle.uhura_plan.specs.declared.guard.Literal.{Literal}
 use Rattle.uhura_choice.specs.declared.prefix.Pick.{Pick}
+use Rattle.uhura_choice.specs.Branch.{IsBranch}
 use Rattle.uhura_veto.specs.State.{State}
 use Rattle.uhura_command.specs.Script.{commands_of}
 use Rattle.uhura_worst.specs.Proposal.{Proposal}
@@ -24,8 +26,9 @@ use Rattle.uhura_check.specs.Conditions.{IsPicked, HasRoom, IsMet}
 use Rattle.uhura_check.specs.Conditions as ask
 use Rattle.uhura_check.specs.Firsts.{IsFirstNot}
 use Rattle.uhura_check.specs.Picks.{IsPickedBy}
-use Rattle.uhura_check.specs.Table.{Asked, line_behind, requirements_line, proposal_asks, IsKept}
+use Rattle.uhura_check.specs.Table.{Asked, line_behind, requirements_line, proposal_asks, answer_asks, IsKept}
 use Rattle.uhura_check.specs.Failure.{told, IsToldFirst, Tells}
+use Rattle.uhura_check.specs.Walked.{IsAnswered}
 use Rattle.uhura_check.proofs.Asks.{each-asked}
 use Rattle.uhura_check.proofs.Allowances.{side-leaves}
 use Rattle.uhura_check.proofs.Confirming.{picks-asked, sides-asked, cost-asked, met-asked}
@@ -33,8 +36,9 @@ use Rattle.uhura_check.proofs.Lengths.{question-line, sides-line}
 use Rattle.uhura_check.proofs.Telling.{tells-stays, tells-behind, tells-next, tells-head, tells-each}
 
 -- where each side has room, no range left is empty
-pub rooms-leave : (state : State) (branch : List Pick) (pairs : List (SideKey × ℕ)) (times : ℕ → ℤ) → IsSound state.plan → All (HasRoom state (proposal_with branch pairs times)) pairs → LeavesRanges state.plan 1 (proposal_with branch pairs times)
-rooms-leave state branch pairs times sound rooms d u is = side-leaves state branch pairs times sound rooms d u is
+pub rooms-leave : (state inside : State) (branch : List Pick) (pairs : List (SideKey × ℕ)) (times : ℕ → ℤ) → state ≡ inside → IsSound inside.plan → All (HasRoom state (proposal_with branch pairs times)) pairs → LeavesRanges inside.plan 1 (proposal_with branch pairs times)
+rooms-leave state inside branch pairs times view sound rooms d u is =
+    side-leaves inside branch pairs times sound (subst (λ (s : State). All (HasRoom s (proposal_with branch pairs times)) pairs) view rooms) d u is
 
 module _ (d : Document) (p : Stated) where
   abbrev q : Proposal
@@ -92,6 +96,21 @@ pub with-state : (d : Document) (p : Stated) (state : State) (branch : List Pick
 with-state d p state branch C is picked holding =
     subst (λ (s : State). C s (picks_of p.picks (length s.plan.choices))) (sym is) (subst (λ (b : List Pick). C state b) picked holding)
 
+-- the line of the proposal
+pub question-told : (d : Document) (state : State) (line : ℕ) → d.state ≡ state → line ≡ length (commands_of state) + 3 → line < 2 ^ 32 → line ≡ told (line_behind (to_question d))
+question-told d state line is same below = omega (arith, same, below, question-line d, ap (λ (s : State). length (commands_of s)) is)
+
+-- a proposal that fails nothing is the answer
+pub answered-by : (d : Document) (p : Stated) (state : State) (branch : List Pick) → d.answer ≡ Some p → d.state ≡ state → (given : List Literal) → given ≡ p.picks → IsPickedBy state given branch → Tells d.state (answer_of d) (proposal_asks d p) None →
+    IsAnswered d (Some (branch, p.cost))
+answered-by d p state branch stated is given listed picked tells =
+    let own : branch ≡ (q d p).branch =
+    picked.picks_are ∙ ap (λ (ls : List Literal). picks_of ls (length state.plan.choices)) listed ∙ ap (λ (s : State). picks_of p.picks (length s.plan.choices)) (sym is) in
+    record {
+      is_stated = ap (λ (b : List Pick). Some (b, p.cost)) own ∙ ap (λ (a : Option Stated). option_map (λ (s : Stated). ((proposal_of d.state.plan s).branch, s.cost)) a) (sym stated);
+      kept = subst (λ (a : Option Stated). All (IsKept d.state (answer_of d)) (answer_asks d a)) (sym stated) tells;
+    }
+
 -- what has been found of a state, which shows what is inside, and of a branch is so of the document
 module _ (d : Document) (p : Stated) (state inside : State) (branch : List Pick) (is : d.state ≡ state) (view : state ≡ inside) (picked : IsPickedBy state p.picks branch) where
   inside-picks : branch ≡ picks_of p.picks (length inside.plan.choices)
@@ -110,10 +129,6 @@ module _ (d : Document) (p : Stated) (state inside : State) (branch : List Pick)
   cost-of found costs = with-state d p inside branch (λ s b. found ≡ cost s.plan 1 (proposal_with b p.loosening (scheduled_time p.times))) (is ∙ view) inside-picks (costs (scheduled_time p.times))
 
   module _ (times : List ℕ) (listed : times ≡ p.times) where
-    pub ranges-of : IsSound inside.plan → ((times : ℕ → ℤ) → All (HasRoom state (proposal_with branch p.loosening times)) p.loosening) → LeavesRanges inside.plan 1 (proposal_with branch p.loosening (scheduled_time times))
-    ranges-of sound rooms =
-        rooms-leave inside branch p.loosening (scheduled_time times) sound (subst (λ (s : State). All (HasRoom s (proposal_with branch p.loosening (scheduled_time times))) p.loosening) view (rooms (scheduled_time times)))
-
     pub first-of : (i : ℕ) → IsFirstNot (IsMet inside.plan (proposal_with branch p.loosening (scheduled_time times))) inside.plan.requirements i → IsFirstNot (IsMet d.state.plan (q d p)) d.state.plan.requirements i
     first-of i first =
         with-state d p inside branch (λ s b. IsFirstNot (IsMet s.plan (proposal_with b p.loosening (scheduled_time p.times))) s.plan.requirements i) (is ∙ view) inside-picks
@@ -125,9 +140,6 @@ module _ (d : Document) (p : Stated) (state inside : State) (branch : List Pick)
         (subst (λ (ts : List ℕ). All (IsMet inside.plan (proposal_with branch p.loosening (scheduled_time ts))) inside.plan.requirements) listed met)
 
   -- the lines
-  pub proposal-line : (line : ℕ) → line ≡ length (commands_of state) + 3 → line < 2 ^ 32 → line ≡ told (line_behind (to_question d))
-  proposal-line line same below = omega (arith, same, below, question-line d, ap (λ (s : State). length (commands_of s)) is)
-
   pub side-line : (line picks place : ℕ) → line ≡ min 4294967295 (length (commands_of state) + 3 + 1 + picks + place) → picks ≡ length p.picks → line ≡ told (line_behind (to_question d ++ to_picks d.state.plan p) + place)
   side-line line picks place same long = omega (arith, same, long, sides-line d p, ap (λ (s : State). length (commands_of s)) is)
 
@@ -144,3 +156,19 @@ module _ (d : Document) (p : Stated) (state inside : State) (branch : List Pick)
 -- the place of what fails first is one of the list
 pub first-within : {A : Type 0} (IsSo : A → Type 0) (xs : List A) (i : ℕ) → IsFirstNot IsSo xs i → i < length xs
 first-within IsSo xs i first = slice_get_within xs i first.thing first.there
+
+-- the picks of a proposal that fails nothing are those of a branch
+picked-first : (d : Document) (p : Stated) → All (IsKept d.state (answer_of d)) (proposal_asks d p) → IsPicked d.state (q d p).branch
+unfolding picks-asked sides-asked cost-asked met-asked
+picked-first d p kept = All-head (IsKept d.state (answer_of d)) (picks-asked d (answer_of d) p) (sides-asked d (answer_of d) p ++ cost-asked d (answer_of d) p ∷ met-asked d (answer_of d) p) kept
+
+-- the branch of an answer is one
+abbrev HasBranch : Document → Answer → Type 0
+HasBranch d answer = IfSome answer (λ a. IsBranch d.state.plan.choices a.0)
+
+pub answered-branch : (d : Document) (answer : Answer) → IsAnswered d answer → HasBranch d answer
+answered-branch d answer is = subst (λ (a : Answer). HasBranch d a) (sym is.is_stated) (by d.answer is.kept)
+  where
+    by : (given : Option Stated) → All (IsKept d.state (answer_of d)) (answer_asks d given) → HasBranch d (option_map (λ (s : Stated). ((proposal_of d.state.plan s).branch, s.cost)) given)
+    by None kept = tt
+    by (Some p) kept = (picked-first d p kept).branch

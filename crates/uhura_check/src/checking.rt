@@ -1,15 +1,14 @@
 //! The check of a document.
 ghost use Rattle.std.specs.Prelude.{IfOk};
+ghost use Rattle.uhura_cert.specs.Document.{IsDocument};
 ghost use Rattle.uhura_check.specs.Confirmed.{answer_of};
 ghost use Rattle.uhura_check.specs.Table.{asks_of, Checks};
 ghost use Rattle.uhura_check.specs.Failure.{Tells};
 
-use crate::entries::entries_of;
+use crate::CheckRefusal;
 use crate::failure::Failure;
 use crate::leaves::leaves_failure;
-use crate::balance::Scratch;
 use crate::stating::stated_answer;
-use crate::{CheckRefusal};
 use std::alloc::{AllocError, Global};
 use uhura_cert::Document;
 
@@ -20,19 +19,21 @@ use uhura_cert::Document;
 pub fn check(alloc: Global, document: &Document) -> Result<(), CheckRefusal>
     ensures { Checks document.now result }
 {
-    match first_failure(alloc, document).map_err(CheckRefusal::Memory)? {
-        Some(failure) => Err(CheckRefusal::NotConfirmed {
+    match first_failure(alloc, document) {
+        Ok(Some(failure)) => Err(CheckRefusal::NotConfirmed {
             code: failure.code,
             line: failure.line,
         }),
-        None => Ok(()),
+        Ok(None) => Ok(()),
+        Err(error) => Err(CheckRefusal::Memory(error)),
     }
 }
 
 /// What a document fails first.
 fn first_failure(alloc: Global, document: &Document) -> Result<Option<Failure>, AllocError>
-    ensures { IfOk result (λ found. Tells document.now.state (answer_of document.now)
+    ensures found { IfOk result (λ found. Tells document.now.state (answer_of document.now)
         (asks_of document.now) found) }
+    ensures fits { IsDocument document.now }
 {
     let answer = match stated_answer(document) {
         Ok(answer) => answer,

@@ -21,7 +21,8 @@ pub(crate) fn next_prefix(
 ) -> Option<Prefix>
     requires next { IfSome next.now (IsBranch plan.now.choices) }
     requires answer { IfSome answer.now (λ a. IsBranch plan.now.choices a.0) }
-    ensures { (before : List (List Pick)) → CoversUpTo plan.now.choices before next.now →
+    ensures prefix { IfSome result (IsPrefix plan.now.choices) }
+    ensures next { (before : List (List Pick)) → CoversUpTo plan.now.choices before next.now →
         MatchOption result (ComesNext plan.now.choices answer.now before picks.now → ⊥)
         (IsNextPrefix plan.now.choices answer.now before picks.now) }
 {

@@ -1,6 +1,6 @@
 //! What fails first among the conditions on the leaves. The walk keeps the first branch that no leaf so far covers;
 //! the next leaf begins with it, and the walk goes on behind all that the leaf's prefix begins.
-ghost use Rattle.std.specs.Prelude.{◌≡◌, ◌+◌, ℕ, List, length, IfSome, None, IfOk, MatchOption, MatchResult};
+ghost use Rattle.std.specs.Prelude.{◌≡◌, ◌+◌, ℕ, [], List, length, IfSome, None, IfOk, MatchOption, MatchResult};
 ghost use Rattle.uhura_choice.specs.declared.prefix.Pick.{Pick};
 ghost use Rattle.uhura_choice.specs.Branch.{IsBranch};
 ghost use Rattle.uhura_veto.specs.State.{State};
@@ -14,12 +14,12 @@ ghost use Rattle.uhura_check.specs.Failure.{told, IsToldFirst, Tells};
 ghost use Rattle.uhura_check.specs.Walked.{IsPassed, IsMissingAt, rest_asks};
 
 use crate::Code;
+use crate::balance::Scratch;
 use crate::covering::next_prefix;
 use crate::entries::{Entries, entries_of};
 use crate::failure::Failure;
 use crate::lines::line_after;
 use crate::parts::{leaves_of, plan_of};
-use crate::balance::Scratch;
 use crate::reasons::reason_failure;
 use std::alloc::{AllocError, Global};
 use uhura_cert::{Document, Leaf, Reason};
@@ -52,7 +52,7 @@ pub(crate) fn leaves_failure(
     let leaves = leaves_of(document);
     for place in 0..leaves.len() {
         let leaf = &leaves[place];
-        match pass_leaf(document, &entries, &mut scratch, answer, &reached, leaf)? {
+        match pass_leaf(document, &entries, &mut scratch, answer, &reached, leaf) {
             Ok(further) => reached = further,
             Err(failure) => return Ok(Some(failure)),
         }
@@ -68,34 +68,35 @@ fn pass_leaf(
     answer: &Option<(Branch, u128)>,
     reached: &Reached,
     leaf: &Leaf,
-) -> Result<Result<Reached, Failure>, AllocError>
+) -> Result<Reached, Failure>
     requires entries { AreEntriesOf document.now entries.now }
     requires answer { IfSome answer.now (λ a. IsBranch document.now.state.plan.choices a.0) }
     requires next { IfSome reached.now.next (IsBranch document.now.state.plan.choices) }
     requires leaf { IsLeaf (place_in document.now.state.plan) document.now.version
         document.now.state (length document.now.shared) leaf.now }
-    ensures { IfOk result (λ passed. (before : List (List Pick)) (line : ℕ) →
+    ensures { (before : List (List Pick)) (line : ℕ) →
         CoversUpTo document.now.state.plan.choices before reached.now.next →
         reached.now.line ≡ told line →
-        MatchResult passed (IsPassed document.now answer.now before line leaf.now)
-        (IsToldFirst document.now.state answer.now (leaf_asks document.now before line leaf.now))) }
+        MatchResult result (IsPassed document.now answer.now before line leaf.now)
+        (IsToldFirst document.now.state answer.now
+        (leaf_asks document.now before line leaf.now)) }
 {
     let plan = plan_of(document);
     let picks = leaf.prefix.as_slice();
     let Some(prefix) = next_prefix(plan, &reached.next, answer, picks) else {
-        return Ok(Err(Failure {
+        return Err(Failure {
             code: Code::LeafOrder,
             line: reached.line,
-        }));
+        });
     };
     let own = line_after(reached.line, 1);
     let reason = &leaf.reason;
     match reason_failure(document, entries, scratch, answer, &prefix, reason, own) {
-        Some(failure) => Ok(Err(failure)),
-        None => Ok(Ok(Reached {
+        Some(failure) => Err(failure),
+        None => Ok(Reached {
             next: next_branch_behind(plan, &prefix),
             line: line_after(line_after(own, 1), edge_lines(reason)),
-        })),
+        }),
     }
 }
 

@@ -24,7 +24,8 @@ pub(crate) fn plan_of(document: &Document) -> &Plan
 
 /// The answer that a document states.
 pub(crate) fn answer_of(document: &Document) -> &Option<Proposal>
-    ensures { result.now ≡ document.now.answer }
+    ensures answer { result.now ≡ document.now.answer }
+    ensures fits { IsDocument document.now }
 {
     &document.answer
 }

@@ -1,6 +1,6 @@
 //! What fails first among the conditions on the proposal.
 ghost use Rattle.std.specs.Prelude.{◌≡◌, MatchResult};
-ghost use Rattle.uhura_cert.specs.Document.{Document};
+ghost use Rattle.uhura_cert.specs.Document.{Document, IsDocument};
 ghost use Rattle.uhura_check.specs.Confirmed.{answer_of};
 ghost use Rattle.uhura_check.specs.Picks.{IsPickedBy};
 ghost use Rattle.uhura_check.specs.Table.{proposal_asks, answer_asks};
@@ -22,9 +22,10 @@ use uhura_command::State;
 /// The branch and the cost that a document states, where it has a proposal, and where that fails a condition, the
 /// first that it fails.
 pub(crate) fn stated_answer(document: &Document) -> Result<Option<(Branch, u128)>, Failure>
-    ensures { MatchResult result (IsAnswered document.now)
+    ensures found { MatchResult result (IsAnswered document.now)
         (IsToldFirst document.now.state (answer_of document.now)
         (answer_asks document.now document.now.answer)) }
+    ensures fits { IsDocument document.now }
 {
     let Some(proposal) = answer_of(document) else {
         return Ok(None);
@@ -48,7 +49,9 @@ fn proposal_failure(state: &State, branch: &Branch, proposal: &Proposal) -> Opti
     ensures { (d : Document) → d.state ≡ state.now → Tells d.state (answer_of d)
         (proposal_asks d proposal.now) result }
 {
+    // By its type the plan is sound.
     let plan = &state.plan;
+    let _ = plan.choices();
     let loosening = &proposal.loosening;
     if let Some(place) = first_without_room(state, branch, loosening) {
         let line = side_line(state, proposal.picks.as_slice().len(), place);
