@@ -28,8 +28,8 @@ reason_failure-requires-clause-prefix c = subst (λ (p : Lists). IsPrefix p.choi
 pub next_branch_behind-requires : goal.next_branch_behind-requires
 next_branch_behind-requires c = c.in-Some.ensures.prefix
 
-pub returns-in-Some-2 : goal.returns-in-Some-2
-returns-in-Some-2 c = λ before line covers is_told.
+pub returns-in-Some-reason_failure : goal.returns-in-Some-reason_failure
+returns-in-Some-reason_failure c = λ before line covers is_told.
     let d = c.args.document.now in
     let leaf = c.args.leaf.now in
     let answer = c.args.answer.now in
@@ -38,9 +38,9 @@ returns-in-Some-2 c = λ before line covers is_told.
     let next : IsNextPrefix d.state.plan.choices answer before leaf.prefix c.in-Some.prefix =
     moved (λ p ps. IsNextPrefix p.choices answer before ps c.in-Some.prefix) plan d.state.plan c.as_slice-picks.result.now leaf.prefix c.plan_of-plan.ensures.plan c.as_slice-picks.ensures (c.in-Some.ensures.next before here) in
     let own : c.line_after-own.result ≡ told (line + 1) = omega (arith, c.line_after-own.ensures, is_told) in
-    reason-told d answer before line leaf c.in-Some-2.failure next.next
-    (subst (λ (ps : List Pick). Tells d.state answer (reason_asks ps (line + 1) (head_line d (line + 1) leaf.reason) (reason_of d.shared leaf.reason)) (Some c.in-Some-2.failure)) next.picked
-    (subst (λ (found : Option Failure). Tells d.state answer (reason_asks c.in-Some.prefix (line + 1) (head_line d (line + 1) leaf.reason) (reason_of d.shared leaf.reason)) found) c.in-Some-2.is
+    reason-told d answer before line leaf c.in-Some-reason_failure.failure next.next
+    (subst (λ (ps : List Pick). Tells d.state answer (reason_asks ps (line + 1) (head_line d (line + 1) leaf.reason) (reason_of d.shared leaf.reason)) (Some c.in-Some-reason_failure.failure)) next.picked
+    (subst (λ (found : Option Failure). Tells d.state answer (reason_asks c.in-Some.prefix (line + 1) (head_line d (line + 1) leaf.reason) (reason_of d.shared leaf.reason)) found) c.in-Some-reason_failure.is
     (c.reason_failure.ensures (line + 1) own)))
 
 pub returns-in-None : goal.returns-in-None
