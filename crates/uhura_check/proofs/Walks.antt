@@ -70,8 +70,7 @@ pub negative-decides : (state : State) (table : List (Option Edge)) (keys : List
     sum ≡ bounds_of (map (edge_in table) keys) → Decides test (sum <ℤ pos 0) → Decides test (IsNegativeKeyedWalk state keys)
 negative-decides state table keys sum test is placed firm closed sum_is decides =
     let same : map (edge_in table) keys ≡ map (keyed_edge state) keys = edges-keyed state table keys is placed in
-    let sum_of : sum ≡ bounds_of (map (keyed_edge state) keys) = sum_is ∙ ap bounds_of same in
-    (
+    let sum_of : sum ≡ bounds_of (map (keyed_edge state) keys) = sum_is ∙ ap bounds_of same in (
       λ so. record { each = firm; closed = subst IsClosedWalk same closed; below = subst (λ (z : ℤ). z <ℤ pos 0) sum_of (decides.0 so) },
       λ walk. decides.1 (subst (λ (z : ℤ). z <ℤ pos 0) (sym sum_of) walk.below),
     )

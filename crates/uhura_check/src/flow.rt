@@ -20,11 +20,7 @@ pub struct Flow {
 }
 
 /// What the units on some edges of a table come to.
-pub(crate) fn flow_of(
-    table: &EdgeTable,
-    scratch: &mut Scratch,
-    pairs: &[(EdgeKey, u64)],
-) -> Flow
+pub(crate) fn flow_of(table: &EdgeTable, scratch: &mut Scratch, pairs: &[(EdgeKey, u64)]) -> Flow
     requires { AreFew pairs.now }
     ensures { (state : State) → IsTableOf state table.now → IsFlowOf state pairs.now result }
 {

@@ -227,9 +227,10 @@ fn entry_failure(
         Tells state.now answer.now
         (reason_asks prefix.now line first (entry_reason given.now)) result }
 {
+    let head = entry.line;
     match (given, entry.worked) {
         (Shared::Flow(edges), Worked::Flow(flow)) => {
-            flow_failure(state, answer, prefix, edges.as_slice(), flow, entry.line, own)
+            flow_failure(state, answer, prefix, edges.as_slice(), flow, head, own)
         }
         (Shared::Stuck(edges), Worked::Stuck(negative)) => {
             stuck_failure(state, prefix, edges.as_slice(), negative, own)
