@@ -1,6 +1,6 @@
 -- How a check goes on from leaf to leaf.
-use Rattle.std.proofs.Common.{◌≡◌, ℕ, zero, suc, ◌+◌, ◌<◌, ◌≤◌, List, [], ◌∷◌, ◌++◌, map, length, drop, get_or, None, Some, Option, true, true≢false, refl, sym, ap, ◌∙◌, subst, arith, append_assoc, append-nil}
-use Rattle.std.specs.Prelude.{All, flat_map, IsSome, IfSome, MatchOption}
+use Rattle.std.proofs.Common.{◌≡◌, ℕ, suc, ◌+◌, ◌<◌, List, [], ◌∷◌, ◌++◌, map, length, drop, get_or, None, Some, Option, true, true≢false, refl, sym, ap, ◌∙◌, subst, arith, append_assoc, append-nil}
+use Rattle.std.specs.Prelude.{flat_map, IsSome, IfSome, MatchOption}
 use Rattle.std.specs.Ordering.{is_ne}
 use Rattle.std.specs.declared.cmp.Ordering.{Ordering}
 use Rattle.std.specs.declared.cmp.Ordering.TheVariants.{Less, Equal, Greater}
@@ -12,7 +12,7 @@ use Rattle.uhura_plan.specs.Lists.{Lists}
 use Rattle.uhura_plan.specs.Sound.{IsSound}
 use Rattle.uhura_plan.specs.declared.choice.Choice.{Choice}
 use Rattle.uhura_choice.specs.declared.prefix.Pick.{Pick}
-use Rattle.uhura_choice.specs.Branch.{IsBranch, IsPrefix, IsEarlier}
+use Rattle.uhura_choice.specs.Branch.{IsPrefix, IsEarlier}
 use Rattle.uhura_choice.specs.Order.{IsFrontOf, Compares}
 use Rattle.uhura_choice.proofs.Earlier.{begins-not_earlier, begun-not_earlier}
 use Rattle.uhura_choice.specs.Walk.{IsFirstFrom, IsFirstBranch}
@@ -20,7 +20,6 @@ use Rattle.uhura_shows.specs.Leaf.{prefixes_of}
 use Rattle.uhura_shows.specs.Shows.{Answer}
 use Rattle.uhura_shows.specs.Behind.{IsBehind, CoversUpTo}
 use Rattle.uhura_shows.proofs.Going.{going-begins, next-not_begun}
-use Rattle.uhura_item.specs.declared.item.Item.{Item}
 use Rattle.uhura_cert.specs.declared.document.Leaf.{Leaf}
 use Rattle.uhura_cert.specs.Document.{Document}
 use Rattle.uhura_cert.specs.Items.{leaf_items, to_shared, to_leaves}

@@ -1,5 +1,5 @@
 -- What a proposal fails first.
-use Rattle.std.proofs.Common.{◌≡◌, ℕ, ◌+◌, ◌<◌, List, [], ◌∷◌, ◌++◌, length, None, Some, Option, refl, sym, ap, ◌∙◌, subst, arith}
+use Rattle.std.proofs.Common.{◌≡◌, ℕ, ◌+◌, ◌<◌, List, ◌∷◌, ◌++◌, length, None, Some, Option, refl, sym, ap, ◌∙◌, subst, arith}
 use Rattle.std.specs.Prelude.{ℤ, All, min, ◌^◌, IfSome, option_map}
 use Rattle.std.proofs.lemmas.List.Elements.{All-head}
 use Rattle.std.proofs.lemmas.Option.{slice_get_within}
@@ -18,7 +18,6 @@ use Rattle.uhura_shows.specs.Shows.{Answer}
 use Rattle.uhura_cert.specs.declared.document.Proposal.{Proposal as Stated}
 use Rattle.uhura_cert.specs.Document.{Document}
 use Rattle.uhura_cert.specs.Items.{to_question, to_picks}
-use Rattle.uhura_check.specs.declared.refusal.Code.{Code}
 use Rattle.uhura_check.specs.declared.refusal.Code.TheVariants as code
 use Rattle.uhura_check.specs.declared.failure.Failure.{Failure}
 use Rattle.uhura_check.specs.Confirmed.{proposal_of, answer_of, picks_of}

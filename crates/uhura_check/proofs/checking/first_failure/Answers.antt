@@ -1,4 +1,4 @@
-use Rattle.std.proofs.Common.{[], sym, subst}
+use Rattle.std.proofs.Common.{[], subst}
 use Rattle.std.proofs.lemmas.Result.{IfOk-weaker}
 use Rattle.uhura_shows.specs.Shows.{Answer}
 use Rattle.uhura_cert.specs.Items.{to_shared}

@@ -1,4 +1,4 @@
-use Rattle.std.proofs.Common.{ap, sym, ◌∙◌, take, length, sum_by, arith}
+use Rattle.std.proofs.Common.{ap, sym, ◌∙◌, sum_by, arith}
 use Rattle.std.specs.Prelude.{option_copied}
 use Rattle.std.proofs.lemmas.List.{take_all}
 use Rattle.uhura_check.specs.Units.{loosened_cost}

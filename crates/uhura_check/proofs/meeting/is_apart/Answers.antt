@@ -1,4 +1,4 @@
-use Rattle.std.proofs.Common.{◌≡◌, ◌+ℤ◌, ◌-ℤ◌, ◌≤ℤ◌, ℤ, pos, to_z, of_z, subst, arith}
+use Rattle.std.proofs.Common.{◌≡◌, ◌-ℤ◌, ◌≤ℤ◌, ℤ, pos, to_z, of_z, subst, arith}
 use Rattle.std.specs.Int.{w128}
 use Rattle.std.specs.Bool.{Decides}
 use Rattle.std.specs.Int.Signed.{le_z}
