@@ -11,3 +11,4 @@ pub mod Reaches
 pub mod Units
 pub mod Walked
 pub mod Entries
+pub mod Right

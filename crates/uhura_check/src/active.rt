@@ -9,7 +9,7 @@ use uhura_plan::{EdgeKey, Item, Plan, Requirement};
 
 /// Whether the table of an item is active: that of a duration everywhere, and that of a requirement where its guard
 /// holds.
-pub fn is_active_item(plan: &Plan, prefix: &Prefix, item: Item) -> bool
+pub(crate) fn is_active_item(plan: &Plan, prefix: &Prefix, item: Item) -> bool
     ensures { result ≡ is_active_item plan.now prefix.now item }
 {
     match item {
@@ -35,7 +35,7 @@ fn requirement_in(plan: &Plan, slot: u32) -> Option<&Requirement>
 }
 
 /// Whether the table of an edge's item is active.
-pub fn is_active_edge(plan: &Plan, prefix: &Prefix, key: EdgeKey) -> bool
+pub(crate) fn is_active_edge(plan: &Plan, prefix: &Prefix, key: EdgeKey) -> bool
     ensures { result ≡ is_active_edge plan.now prefix.now key }
 {
     is_active_item(plan, prefix, item_of(key))

@@ -10,7 +10,7 @@ use uhura_plan::{Plan, Rate, Requirement, Side, Uncertain};
 use uhura_worst::Loosening;
 
 /// What a proposal costs: the picked alternatives, and the units of all sides.
-pub fn proposal_cost(plan: &Plan, branch: &Branch, loosening: &Loosening) -> u128
+pub(crate) fn proposal_cost(plan: &Plan, branch: &Branch, loosening: &Loosening) -> u128
     ensures { (times : ℕ → ℤ) → result ≡
         cost plan.now 1 (proposal_with branch.now loosening.now times) }
 {

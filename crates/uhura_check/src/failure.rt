@@ -4,7 +4,7 @@ use crate::Code;
 /// The code of a condition that fails, and its line, counted from 1, and told as the greatest number of a `u32` where
 /// it is greater.
 #[derive(Clone, Copy, Debug, PartialEq, Eq)]
-pub struct Failure {
+pub(crate) struct Failure {
     pub code: Code,
     pub line: u32,
 }

@@ -1,7 +1,10 @@
-//! The checker of documents: which conditions a document is to meet, in which order, at which lines
-//! (`specs/Conditions.antt`, `specs/Table.antt`), and when it is confirmed (`specs/Confirmed.antt`), tried on a worked
-//! document in `examples`. `laws` says what a confirmed document shows, and that it is one exactly where no condition
-//! fails.
+//! The checker of documents. `check` answers yes exactly where a document is confirmed (`specs/Confirmed.antt`), and
+//! else with the first of the conditions that it fails (`specs/Conditions.antt`), in their order and at their lines
+//! (`specs/Table.antt`, tried on worked documents in `examples`). `laws` says what a confirmed document shows, and that
+//! it is one exactly where no condition fails.
+//!
+//! `stating` decides the conditions on the proposal, `leaves` goes from leaf to leaf, `reasons` decides what is asked
+//! of the reason of one, and `entries` works out once what the shared entries show.
 #![tactic(auto)]
 
 mod active;
@@ -33,13 +36,4 @@ mod value;
 mod walk;
 
 pub use checking::check;
-pub use active::{is_active_edge, is_active_item};
-pub use denied::is_denied_by;
-pub use cost::proposal_cost;
-pub use failure::Failure;
-pub use lines::{line_after, proposal_line, requirement_line, shared_line, side_line};
-pub use meeting::first_not_met;
-pub use picks::picked_branch;
 pub use refusal::{CheckRefusal, Code};
-pub use room::{first_without_room, has_room};
-

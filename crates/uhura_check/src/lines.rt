@@ -13,7 +13,7 @@ use uhura_command::State;
 use uhura_plan::Plan;
 
 /// The line of the proposal: behind the version, the script and the question.
-pub fn proposal_line(state: &State) -> u32
+pub(crate) fn proposal_line(state: &State) -> u32
     ensures { result ≡ length (commands_of state.now) + 3 }
 {
     let plan = &state.plan;
@@ -26,7 +26,7 @@ pub fn proposal_line(state: &State) -> u32
 }
 
 /// The line so many lines behind another, told as the greatest number of a `u32` where it is greater.
-pub fn line_after(line: u32, count: usize) -> u32
+pub(crate) fn line_after(line: u32, count: usize) -> u32
     ensures { result ≡ min 4_294_967_295 (line + count) }
 {
     u64::from(line)
@@ -35,7 +35,7 @@ pub fn line_after(line: u32, count: usize) -> u32
 }
 
 /// The line of a side of the proposal, by its place and the number of the picks before all sides.
-pub fn side_line(state: &State, picks: usize, place: usize) -> u32
+pub(crate) fn side_line(state: &State, picks: usize, place: usize) -> u32
     ensures { result ≡ min 4_294_967_295 (length (commands_of state.now) + 3 + 1 + picks + place) }
 {
     let first = line_after(proposal_line(state), 1);
@@ -44,7 +44,7 @@ pub fn side_line(state: &State, picks: usize, place: usize) -> u32
 }
 
 /// The line of the requirement in a place: behind the version, the events, the durations and the choices.
-pub fn requirement_line(plan: &Plan, place: u32) -> u32
+pub(crate) fn requirement_line(plan: &Plan, place: u32) -> u32
     requires { place < length plan.now.requirements }
     ensures { result ≡ 2 + length plan.now.events + length plan.now.uncertains
         + length plan.now.choices + place }
@@ -55,7 +55,7 @@ pub fn requirement_line(plan: &Plan, place: u32) -> u32
 }
 
 /// The line behind the answer of a document.
-pub fn shared_line(document: &Document) -> u32
+pub(crate) fn shared_line(document: &Document) -> u32
     ensures { result ≡ told (line_behind (to_answer document.now)) }
 {
     let first = proposal_line(state_of(document));

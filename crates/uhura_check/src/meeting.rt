@@ -17,7 +17,7 @@ use uhura_plan::{EventRef, Plan, Requirement, Side};
 use uhura_worst::Loosening;
 
 /// The place of the first requirement that isn't met, where there is one.
-pub fn first_not_met(
+pub(crate) fn first_not_met(
     plan: &Plan,
     branch: &Branch,
     loosening: &Loosening,

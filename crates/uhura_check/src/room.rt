@@ -19,7 +19,7 @@ use uhura_worst::Loosening;
 
 /// Whether a side that is loosened or narrowed is one of an active item, has room for its units, and leaves some
 /// lengths.
-pub fn has_room(state: &State, branch: &Branch, loosening: &Loosening, side: (SideKey, u64)) -> bool
+fn has_room(state: &State, branch: &Branch, loosening: &Loosening, side: (SideKey, u64)) -> bool
     ensures { (times : ℕ → ℤ) → Decides result
         (HasRoom state.now (proposal_with branch.now loosening.now times) side) }
 {
@@ -29,7 +29,7 @@ pub fn has_room(state: &State, branch: &Branch, loosening: &Loosening, side: (Si
 }
 
 /// The place of the first side that has no room, where there is one.
-pub fn first_without_room(state: &State, branch: &Branch, loosening: &Loosening) -> Option<usize>
+pub(crate) fn first_without_room(state: &State, branch: &Branch, loosening: &Loosening) -> Option<usize>
     ensures { (times : ℕ → ℤ) → MatchOption result
         (All (HasRoom state.now (proposal_with branch.now loosening.now times)) loosening.now)
         (IsFirstNot (HasRoom state.now (proposal_with branch.now loosening.now times))
