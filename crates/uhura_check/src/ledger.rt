@@ -41,8 +41,8 @@ fn enter(due: &mut [i128], edge: Edge, units: u64)
     take(due, edge.from, units);
 }
 
-/// All units go along their edges, where no node is due anything before. There are at most 16,128 edges, with less than
-/// 2^64 units on each, so that what a node is due is far within an `i128`.
+/// All units go along their edges, where no node is due anything before. There are at most 16,128 edges, with less
+/// than 2^64 units on each, so that what a node is due is far within an `i128`.
 pub(crate) fn enter_all(due: &mut [i128], table: &EdgeTable, pairs: &[(EdgeKey, u64)])
     requires nodes { length due.old ≡ NODES }
     requires clear { IsClear due.old }

@@ -34,8 +34,8 @@ use uhura_command::State;
 use uhura_net::EdgeTable;
 use uhura_plan::EdgeKey;
 
-/// What the reason of a leaf with this prefix fails first, where it stands in its own line. What the shared entries of
-/// the document come to is known.
+/// What the reason of a leaf with this prefix fails first, where it stands in its own line. What the shared entries
+/// of the document come to is known.
 pub(crate) fn reason_failure(
     document: &Document,
     entries: &Entries,
@@ -172,8 +172,8 @@ fn is_stuck_by(state: &State, prefix: &Prefix, keys: &[EdgeKey], negative: bool)
     negative && are_active(&state.plan, prefix, keys)
 }
 
-/// What units on edges fail first: an edge that may not carry its units, behind the line `head`, their balance at that
-/// line, or what they show at the line of the reason.
+/// What units on edges fail first: an edge that may not carry its units, behind the line `head`, their balance at
+/// that line, or what they show at the line of the reason.
 fn flow_failure(
     state: &State,
     answer: &Option<(Branch, u128)>,
