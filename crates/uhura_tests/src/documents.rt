@@ -3,7 +3,7 @@ use std::alloc::{AllocError, Global};
 use uhura_cert::{DocumentRefusal, read_document, write_document};
 
 /// Two ways that cost the same, in version 1.
-const FIRST: [&str; 19] = [
+pub(crate) const FIRST: [&str; 19] = [
     "document 1",
     "event a",
     "event b",
@@ -26,7 +26,7 @@ const FIRST: [&str; 19] = [
 ];
 
 /// The same in version 2.
-const SECOND: [&str; 21] = [
+pub(crate) const SECOND: [&str; 21] = [
     "document 2",
     "event a",
     "event b",
@@ -69,7 +69,7 @@ const WALK: [&str; 14] = [
 ];
 
 /// Two requirements that clash, in version 1.
-const CLASH: [&str; 12] = [
+pub(crate) const CLASH: [&str; 12] = [
     "document 1",
     "event a",
     "event b",
@@ -85,7 +85,7 @@ const CLASH: [&str; 12] = [
 ];
 
 /// The lines, each with `end` behind it.
-fn text_of(alloc: Global, lines: &[&str], end: &str) -> Result<Vec<u8>, AllocError> {
+pub(crate) fn text_of(alloc: Global, lines: &[&str], end: &str) -> Result<Vec<u8>, AllocError> {
     let mut text = Vec::new(alloc);
     for line in lines {
         text.extend_from_slice(line.as_bytes())?;
@@ -95,7 +95,7 @@ fn text_of(alloc: Global, lines: &[&str], end: &str) -> Result<Vec<u8>, AllocErr
 }
 
 /// The lines with another text in place of one, which is counted from 1.
-fn changed(alloc: Global, lines: &[&str], at: usize, with: &str) -> Result<Vec<u8>, AllocError> {
+pub(crate) fn changed(alloc: Global, lines: &[&str], at: usize, with: &str) -> Result<Vec<u8>, AllocError> {
     let mut text = Vec::new(alloc);
     for place in 0..lines.len() {
         let line = if place + 1 == at { with } else { lines[place] };
