@@ -1,5 +1,5 @@
 -- What a proposal costs at most.
-use Rattle.std.proofs.Common.{◌≡◌, ℕ, zero, suc, ◌+◌, ◌-◌, ◌*◌, ◌<◌, ◌≤◌, List, [], ◌∷◌, length, Option, None, Some, Contains, slice_get, arith, lit≤}
+use Rattle.std.proofs.Common.{◌≡◌, ℕ, zero, suc, ◌+◌, ◌-◌, ◌*◌, ◌<◌, ◌≤◌, List, [], ◌∷◌, length, Option, None, Some, slice_get, refl, inl, inr, arith, lit≤}
 use Rattle.std.specs.Prelude.{All, IfSome, sum_by, unwrap_or, option_map}
 use Rattle.std.specs.Option.{option_map_or}
 use Rattle.std.proofs.Math.Nat.{mul-le-mul}
@@ -23,10 +23,11 @@ use Rattle.uhura_plan.specs.Sound.{IsSound, IsSoundRequirement, IsSoundUncertain
 use Rattle.uhura_choice.specs.declared.prefix.Pick.{Pick}
 use Rattle.uhura_choice.specs.declared.prefix.Pick.TheVariants.{Alternative, Inactive}
 use Rattle.uhura_choice.specs.Branch.{pick_cost, picked_cost}
+use Rattle.uhura_worst.specs.Units.{side_units, AreUnits}
 use Rattle.uhura_worst.specs.Proposal.{Proposal}
 use Rattle.uhura_worst.specs.Cost.{cost, second_cost, price_of, loosening_cost, narrowing_cost, narrowings_cost}
-use Rattle.uhura_worst.proofs.SoundItems.{Contains-at}
 use Rattle.uhura_item.specs.declared.limits.TheConstants.{GREATEST_COST}
+use Rattle.uhura_check.proofs.Sides.{AreFrom, units-from}
 
 -- ---- the picks
 
@@ -79,6 +80,14 @@ narrowing-sound events Lower u is = is.lower_rate
 narrowing-sound events Upper u is = is.upper_rate
 
 -- ---- the whole
+
+-- no side has more units than a pair may have
+pub units-most : (pairs : List (SideKey × ℕ)) (key : SideKey) → All (λ (pair : SideKey × ℕ). AreUnits pair.1) pairs → side_units pairs key ≤ 10000000000000
+units-most pairs key are = by (side_units pairs key) (units-from pairs key)
+  where
+    by : (units : ℕ) → AreFrom pairs key units → units ≤ 10000000000000
+    by units (inl none) = omega (arith, none)
+    by units (inr there) = (All-contains (λ (pair : SideKey × ℕ). AreUnits pair.1) pairs (key, units) are there).most
 
 abbrev HasFewUnits : Proposal → Type 0
 HasFewUnits q = (key : SideKey) → q.units key ≤ 10000000000000

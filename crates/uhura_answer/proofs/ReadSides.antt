@@ -120,7 +120,7 @@ durations-among plan first (suc count) few = (omega (arith, few), durations-amon
 items-among : (plan : Lists) → IsSound plan → AllByRecursion (IsItemOf plan) (items_of plan)
 items-among plan sound =
     requirements-among (IsItemOf plan) plan.requirements (duration_items (length plan.uncertains))
-    (λ j r there. subst (λ (o : Option Requirement). IsSome o) (sym (requirement_in-member plan r sound.distinct.slots (Contains-at plan.requirements j r there))) tt)
+    (λ j r there. subst (λ (o : Option Requirement). IsSome o) (sym (requirement_in-member plan r sound.distinct.slots (Contains-at plan.requirements j r there))) refl)
     (durations-among plan 0 (length plan.uncertains) (omega arith))
 
 -- so the sides that are read off can be stated

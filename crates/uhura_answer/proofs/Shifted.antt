@@ -1,10 +1,9 @@
 -- A schedule stays one when all its times are moved by as much. So the earliest one isn't late.
-use Rattle.std.proofs.Common.{◌≡◌, ℕ, ◌<◌, ◌≤◌, List, length, Option, None, Some, slice_get, sym, ap, ◌∙◌, subst, arith, get_or}
+use Rattle.std.proofs.Common.{◌≡◌, ℕ, ◌<◌, ◌≤◌, List, length, Option, None, Some, slice_get, refl, subst, arith, get_or}
 use Rattle.std.specs.Prelude.{ℤ, pos, neg_ℤ, ◌+ℤ◌, ◌-ℤ◌, ◌≤ℤ◌, unwrap_or, option_map, slice_index_or}
 use Rattle.std.specs.List.{AllByRecursion}
 use Rattle.std.proofs.lemmas.Int.{ints}
 use Rattle.std.proofs.lemmas.List.Elements.{All-from_get_or, recursion_from_All}
-use Rattle.std.proofs.lemmas.Option.{slice_get-get_or}
 use Rattle.uhura_plan.specs.declared.key.SideKey.{SideKey}
 use Rattle.uhura_plan.specs.declared.key.EventRef.{EventRef}
 use Rattle.uhura_plan.specs.declared.key.EventRef.TheVariants.{Controllable, End}
@@ -17,6 +16,7 @@ use Rattle.uhura_worst.specs.Proposal.{time_of, CoversAllDurations, IsWithin}
 use Rattle.uhura_worst.specs.Best.{StartsAtZero}
 use Rattle.uhura_worst.proofs.SoundItems.{sound_requirement}
 use Rattle.uhura_relax.specs.Schedule.{proposal_with, scheduled_time, IsEarliestSchedule}
+use Rattle.uhura_cert.proofs.Walk.{ended_at}
 use Rattle.uhura_dual.specs.ReadOff.{IsPotential, ArePotentials}
 use Rattle.uhura_item.specs.declared.limits.TheConstants.{LATEST}
 
@@ -32,7 +32,7 @@ time-later plan branch pairs times durations by (End d) among = started (slice_g
   where
     started : (o : Option Uncertain) → slice_get plan.uncertains d ≡ o →
         (unwrap_or (option_map (λ u. times u.start +ℤ by) o) (pos 0) +ℤ durations d) ≡ ((unwrap_or (option_map (λ u. times u.start) o) (pos 0) +ℤ durations d) +ℤ by)
-    started None is = let there : slice_get plan.uncertains d ≡ Some _ = slice_get-get_or plan.uncertains d _ among in absurd (let no : ⊥ = cc in no)
+    started None is = absurd (omega (arith, ended_at plan.uncertains d is, among))
     started (Some u) is = omega (arith, ints)
 
 -- so it still meets all requirements
@@ -44,7 +44,9 @@ covers-later plan branch pairs times by sound covers durations left r member act
     let from = time-later plan branch pairs times durations by r.from is.from in
     let same : (time_of plan (proposal_with branch pairs times) durations r.to -ℤ time_of plan (proposal_with branch pairs times) durations r.from)
         ≡ (time_of plan (proposal_with branch pairs (later_by by times)) durations r.to -ℤ time_of plan (proposal_with branch pairs (later_by by times)) durations r.from) = omega (arith, ints, to, from) in
-    subst (IsWithin 1 (proposal_with branch pairs times) r) same (covers durations left r member active)
+    let within : IsWithin 1 (proposal_with branch pairs times) r (time_of plan (proposal_with branch pairs (later_by by times)) durations r.to -ℤ time_of plan (proposal_with branch pairs (later_by by times)) durations r.from) =
+    subst (IsWithin 1 (proposal_with branch pairs times) r) same (covers durations left r member active) in
+    record { lower = within.lower; upper = within.upper }
 
 -- the potentials are a schedule from 0 on when they are moved by as much as they may lie below 0
 potentials-start : (plan : Lists) (potentials : List ℤ) → IsSound plan → ArePotentials potentials → StartsAtZero plan (later_by (pos 1536000000000) (time_at potentials))

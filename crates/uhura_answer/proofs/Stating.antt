@@ -13,7 +13,6 @@ use Rattle.uhura_worst.specs.Allowed.{Allowed}
 use Rattle.uhura_worst.specs.Best.{IsCheapest, IsFirst, IsBest}
 use Rattle.uhura_worst.specs.Cost.{cost}
 use Rattle.uhura_worst.specs.WorstCase.{proposal_at}
-use Rattle.uhura_worst.proofs.Pairs.{side_units-most}
 use Rattle.uhura_relax.specs.Schedule.{proposal_with, scheduled_time, IsEarliestSchedule}
 use Rattle.uhura_dual.specs.ReadOff.{passed_side, passed_sides}
 use Rattle.uhura_dual.proofs.ReadOff.{read_off-same}
@@ -26,16 +25,16 @@ use Rattle.uhura_answer.specs.Literals.{literals_of}
 use Rattle.uhura_answer.specs.Stated.{IsBestStated, IsFound, IsStatedWith}
 use Rattle.uhura_answer.proofs.PickedLiterals.{branch-among, literals-rise, picks-branch}
 use Rattle.uhura_answer.proofs.ReadSides.{sides-stated}
-use Rattle.uhura_answer.proofs.Bounds.{cost-most}
+use Rattle.uhura_answer.proofs.Bounds.{units-most, cost-most}
 use Rattle.uhura_answer.proofs.Shifted.{times-within}
 
 module _ (state : State) (branch : List Pick) (all : ℕ) (potentials : List ℤ) (pairs : List (SideKey × ℕ)) (sound : IsSound state.plan) (found : IsFound state branch all potentials)
     (units : (key : SideKey) → side_units pairs key ≡ passed_side state.plan branch (time_at potentials) key) where
   -- the proposal that takes the potentials, and the same by its pairs
-  taken : Proposal
+  abbrev taken : Proposal
   taken = proposal_at state.plan 1 branch (time_at potentials)
 
-  read : Proposal
+  abbrev read : Proposal
   read = proposal_with branch pairs (time_at potentials)
 
   same : taken ≡ read
@@ -79,7 +78,7 @@ module _ (state : State) (branch : List Pick) (all : ℕ) (potentials : List ℤ
         let picked : picks_of p.picks (length state.plan.choices) ≡ branch =
         ap (λ (ls : List Literal). picks_of ls (length state.plan.choices)) picks ∙ picks-branch state.plan.choices branch found.1.is_branch in
         let of : proposal_of state.plan p ≡ proposal_with branch pairs (scheduled_time schedule) = rw (picked, loosened, timed) refl in
-        let most = cost-most state.plan (proposal_with branch pairs (scheduled_time schedule)) sound (λ key. side_units-most pairs key sound_pairs.units) in
+        let most = cost-most state.plan (proposal_with branch pairs (scheduled_time schedule)) sound (λ key. units-most pairs key sound_pairs.units) in
         record {
           best = record {
             fits = record {

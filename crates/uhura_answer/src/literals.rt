@@ -13,12 +13,13 @@ pub(crate) fn literals_of(alloc: Global, branch: &Branch) -> Result<Vec<Literal>
     let picks = branch.entries();
     let mut literals = Vec::new(alloc);
     for choice in 0..picks.len() as u32 {
-        if let Pick::Alternative(alternative) = picks[choice as usize] {
-            literals.push(Literal {
-                choice,
-                alternative,
-            })?;
-        }
+        let Pick::Alternative(alternative) = picks[choice as usize] else {
+            continue;
+        };
+        literals.push(Literal {
+            choice,
+            alternative,
+        })?;
     }
     Ok(literals)
 }
