@@ -1,11 +1,3 @@
-pub mod Ranks
-pub mod Places
-pub mod Followed
-pub mod ChosenFlags
-pub mod FirstCheapest
-pub mod Opening
-pub mod Unpriced
-pub mod BestBranch
 pub mod Conversing
 pub mod AnswersEdits
 pub mod ShowReplays
