@@ -1,5 +1,6 @@
 pub mod Conversing
 pub mod AnswersEdits
+pub mod Asking
 pub mod ShowReplays
 pub mod Refusals
 pub mod SameVetoes
