@@ -8,6 +8,7 @@ pub mod Marking
 pub mod Putting
 pub mod Ranks
 pub mod Reasons
+pub mod Reguarding
 pub mod Shorter
 pub mod Showing
 pub mod Shown

@@ -3,10 +3,10 @@ pub mod Appended
 pub mod Asked
 pub mod Closed
 pub mod Guards
+pub mod Held
 pub mod Known
 pub mod Learning
 pub mod Moving
 pub mod Revised
 pub mod Searcher
-pub mod Shown
 pub mod Shut
