@@ -4,6 +4,8 @@ pub mod Denials
 pub mod Enough
 pub mod FlowBounds
 pub mod Found
+pub mod Guarded
+pub mod Leaving
 pub mod Marking
 pub mod Putting
 pub mod Ranks

@@ -27,7 +27,7 @@ pub writes-same : (guards : List (List Literal)) (table : List (Option Edge)) (s
 writes-same guards table slot guard is = record { own = is; others = λ other differs. refl; table = λ key placed. inl (λ at of_slot. refl, refl) }
 
 -- the slot of an edge is that of its item
-slot-of-item : (key : EdgeKey) → slot_of key ≡ slot_of_item (item_of key)
+pub slot-of-item : (key : EdgeKey) → slot_of key ≡ slot_of_item (item_of key)
 slot-of-item (Loose key) = refl
 slot-of-item (Firm key) = refl
 slot-of-item (Steep key) = refl

@@ -1,5 +1,5 @@
 -- What the parts of a searcher show.
-use Rattle.std.specs.Prelude.{◌≡◌, ◌×◌, Bool, List, Option, option_map}
+use Rattle.std.specs.Prelude.{◌≡◌, Bool, List, Option, option_map}
 use Rattle.uhura_plan.specs.declared.guard.Literal.{Literal}
 use Rattle.uhura_search.specs.declared.learning.Learning.{Learning}
 use Rattle.uhura_search.specs.declared.outcome.Outcome.{Outcome}

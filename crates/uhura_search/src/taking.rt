@@ -49,6 +49,7 @@ fn take_out_changed(flow: &mut Flow, table: &EdgeTable)
 {
     for number in 0..PLACES as u32 {
         let place = Place(number);
-        take_at(flow, place, table.get(place));
+        let edge = table.get(place);
+        take_at(flow, place, edge);
     }
 }
