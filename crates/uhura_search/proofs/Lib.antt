@@ -7,6 +7,7 @@ pub mod Found
 pub mod Guarded
 pub mod Leaving
 pub mod Marking
+pub mod Prefixed
 pub mod Putting
 pub mod Ranks
 pub mod Reasons
