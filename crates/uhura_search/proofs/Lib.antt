@@ -5,6 +5,7 @@ pub mod Enough
 pub mod FlowBounds
 pub mod Found
 pub mod Guarded
+pub mod Holding
 pub mod Leaving
 pub mod Marking
 pub mod Prefixed

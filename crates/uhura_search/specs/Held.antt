@@ -1,9 +1,9 @@
 -- What the parts of a searcher show.
-use Rattle.std.specs.Prelude.{◌≡◌, Bool, List, Option, option_map}
+use Rattle.std.specs.Prelude.{◌≡◌, ◌≤◌, IsTrue, IsFalse, Bool, List, Option, option_map}
 use Rattle.uhura_plan.specs.declared.guard.Literal.{Literal}
 use Rattle.uhura_search.specs.declared.learning.Learning.{Learning}
 use Rattle.uhura_search.specs.declared.outcome.Outcome.{Outcome}
-use Rattle.uhura_search.specs.Searcher.{Searched, said, IsSearcher}
+use Rattle.uhura_search.specs.Searcher.{Searched, said, IsSearcher, KeepsNothing}
 
 abbrev pub shown_as :
     Learning → List (List Literal) → Option Outcome → Bool → Bool → Searched
@@ -23,3 +23,12 @@ pub record IsHeldSearcher (learning : Learning) (guards : List (List Literal))
     (answer : Option Outcome) (stands filled : Bool) : Type 0 where
   pub sound : IsSearcher (shown_as learning guards answer stands filled)
   pub table : learning.store.table ≡ learning.table
+
+-- the table is filled for a first question, before which nothing was kept
+pub record HasBegun (old new : Searched) : Type 0 where
+  pub store : KeepsNothing new.store
+  pub settles : new.settles ≡ old.settles
+  pub added : new.added ≡ old.added
+  pub pushes : old.net.pushes ≤ new.net.pushes
+  pub filled : IsTrue new.filled
+  pub stands : IsFalse new.stands

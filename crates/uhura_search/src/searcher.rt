@@ -1,10 +1,11 @@
 //! The searcher: what is kept from question to question.
-ghost use Rattle.std.specs.Prelude.{◌≡◌, IsTrue, IsFalse, IfOk};
+ghost use Rattle.std.specs.Prelude.{◌≡◌, Some, IsTrue, IsFalse, IfOk};
 ghost use Rattle.uhura_veto.specs.State.{State};
 ghost use Rattle.uhura_search.specs.Answer.{IsAnswerTo};
 ghost use Rattle.uhura_search.specs.Asked.{IsLeftSolved};
+ghost use Rattle.uhura_search.specs.Held.{HasBegun};
 ghost use Rattle.uhura_search.specs.Revised.{IsRevised};
-ghost use Rattle.uhura_search.specs.Searcher.{empty_searcher, IsSearcher, StandsFor, IsAskedOnce};
+ghost use Rattle.uhura_search.specs.Searcher.{empty_searcher, said, IsSearcher, IsFilledFor, IsAsked, StandsFor, Asks, IsAskedOnce};
 
 use crate::Outcome;
 use crate::ask::ask;
@@ -73,5 +74,84 @@ impl Searcher {
         }
         self.stands = false;
         take_over(&mut self.learning, &mut self.guards, plan, vetoes);
+    }
+
+    /// Answers a question: the first of the cheapest branches, or none, with leaves that show it. Where the last answer
+    /// stands, it is given again. Otherwise what is learned is kept, and trimmed when all is answered. After want of
+    /// memory the searcher may be asked again.
+    pub fn best(&mut self, plan: &Plan, vetoes: &Vetoes) -> Result<Outcome, AllocError>
+        requires { StandsFor self.old (record { plan = plan.now; vetoes = vetoes.now }) }
+        ensures answer { let state : State = record { plan = plan.now; vetoes = vetoes.now } in
+            IfOk result (IsAnswerTo state) }
+        ensures solved { let state : State = record { plan = plan.now; vetoes = vetoes.now } in
+            IfOk result (IsLeftSolved self.new.net state) }
+        ensures stands_for { StandsFor self.new (record { plan = plan.now; vetoes = vetoes.now }) }
+        ensures asked { IsAskedOnce self.old self.new plan.now result }
+    {
+        if self.stands {
+            return self.again(plan, vetoes);
+        }
+        if !self.filled {
+            self.begin(plan, vetoes);
+        }
+        self.ask_anew(plan, vetoes)
+    }
+
+    /// How often the flow was read or found stuck.
+    pub fn settles(&self) -> u64
+        ensures { result ≡ self.now.settles }
+    {
+        self.learning.flow.settles()
+    }
+
+    /// How often units were pushed.
+    pub fn pushes(&self) -> u64
+        ensures { result ≡ self.now.net.pushes }
+    {
+        self.learning.flow.pushes()
+    }
+
+    /// How many conflicts were added.
+    pub fn added(&self) -> u64
+        ensures { result ≡ self.now.added }
+    {
+        self.learning.added
+    }
+
+    /// The last answer once more.
+    fn again(&self, plan: &Plan, vetoes: &Vetoes) -> Result<Outcome, AllocError>
+        requires stands { IsTrue self.now.stands }
+        requires stands_for { StandsFor self.now (record { plan = plan.now; vetoes = vetoes.now }) }
+        ensures { IfOk result (λ given. self.now.answer ≡ Some (said given)) }
+    {
+        let answer = self.answer.as_ref().unwrap();
+        share(self.alloc, plan, vetoes, answer)
+    }
+
+    /// Fills the table and the guards for the first question.
+    fn begin(&mut self, plan: &Plan, vetoes: &Vetoes)
+        requires { IsFalse self.old.filled }
+        ensures filled { IsFilledFor self.new (record { plan = plan.now; vetoes = vetoes.now }) }
+        ensures begun { HasBegun self.old self.new }
+    {
+        take_over(&mut self.learning, &mut self.guards, plan, vetoes);
+        self.filled = true;
+    }
+
+    /// Answers a question whose answer isn't kept.
+    fn ask_anew(&mut self, plan: &Plan, vetoes: &Vetoes) -> Result<Outcome, AllocError>
+        requires filled { IsTrue self.old.filled }
+        requires stands { IsFalse self.old.stands }
+        requires known { IsFilledFor self.old (record { plan = plan.now; vetoes = vetoes.now }) }
+        ensures answer { let state : State = record { plan = plan.now; vetoes = vetoes.now } in
+            IfOk result (IsAsked self.new.net state) }
+        ensures stands_for { StandsFor self.new (record { plan = plan.now; vetoes = vetoes.now }) }
+        ensures asked { Asks self.old self.new plan.now result }
+    {
+        let outcome = ask(&mut self.learning, self.alloc, plan, vetoes)?;
+        self.answer = Some(share(self.alloc, plan, vetoes, &outcome)?);
+        self.learning.store.trim(MOST_PAIRS);
+        self.stands = true;
+        Ok(outcome)
     }
 }
