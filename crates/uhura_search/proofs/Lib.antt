@@ -1,3 +1,4 @@
+pub mod Active
 pub mod Answering
 pub mod Appending
 pub mod Denials

@@ -1,7 +1,9 @@
 pub mod Answer
 pub mod Appended
+pub mod Asked
 pub mod Closed
 pub mod Known
+pub mod Learning
 pub mod Moving
 pub mod Searcher
 pub mod Shut

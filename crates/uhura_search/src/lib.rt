@@ -4,12 +4,15 @@
 //! A flow is moved from branch to branch (`specs/Moving.antt`).
 #![tactic(auto)]
 
+mod adding;
+mod ask;
 mod closing;
 mod cover;
 mod fronts;
 mod incumbent;
 pub mod laws;
 mod leaf;
+mod learning;
 pub mod moving;
 mod outcome;
 mod shut;
