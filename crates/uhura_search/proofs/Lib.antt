@@ -13,4 +13,5 @@ pub mod Shorter
 pub mod Showing
 pub mod Shown
 pub mod Still
+pub mod Valid
 pub mod Walked
