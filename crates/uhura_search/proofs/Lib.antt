@@ -5,13 +5,16 @@ pub mod Denials
 pub mod Enough
 pub mod FlowBounds
 pub mod Found
+pub mod Learns
 pub mod Marking
 pub mod Putting
 pub mod Ranks
+pub mod Ready
 pub mod Reasons
 pub mod Shorter
 pub mod Showing
 pub mod Shown
 pub mod Still
 pub mod Valid
+pub mod Values
 pub mod Walked

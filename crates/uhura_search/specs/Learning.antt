@@ -14,11 +14,11 @@ use Rattle.uhura_conflict.specs.declared.bound.Bound.{Bound}
 use Rattle.uhura_conflict.specs.declared.bound.Bound.TheVariants.{Nothing, Flow, Stuck}
 use Rattle.uhura_conflict.specs.Learned.{Learned, places_in}
 use Rattle.uhura_conflict.specs.Literals.{AreLiteralsOf, Applies}
-use Rattle.uhura_conflict.specs.Store.{IsStore, ExceedsBest, Adds}
+use Rattle.uhura_conflict.specs.Store.{Stored, IsStore, IsBest, ExceedsBest, Adds}
 use Rattle.uhura_search.specs.declared.incumbent.Incumbent.{Incumbent}
 use Rattle.uhura_search.specs.declared.learning.Learning.{Learning}
 use Rattle.uhura_search.specs.Known.{IsStoreFor}
-use Rattle.uhura_search.specs.Moving.{AreAmong, AreListed, HasFlowBounds}
+use Rattle.uhura_search.specs.Moving.{AreAmong, AreListed, active_edges, HasFlowBounds}
 use Rattle.uhura_search.specs.Shut.{IsSmallCost, IsDear, IsShut}
 use Rattle.uhura_search.specs.Asked.{raised, LearnsSome}
 
@@ -41,6 +41,14 @@ pub record IsReady (state : State) (learning : Learning) : Type 0 where
   pub bounds : HasFlowBounds learning.table
   pub counts : AreCounts learning
 
+-- what was learned is as before, and so are the places; units were pushed at most
+pub record KeepsLearned (old new : Learning) : Type 0 where
+  pub store : new.store ≡ old.store
+  pub added : new.added ≡ old.added
+  pub table : new.table ≡ old.table
+  pub places : new.places.items ≡ old.places.items
+  pub pushes : old.flow.net.pushes ≤ new.flow.net.pushes
+
 -- a conflict that applies to a branch comes into the store, where it exceeds all that is known of the branch, and is
 -- counted; all else is as before
 pub record HasAddedAt (plan : Lists) (old new : Learning) (branch : List Pick) (conflict : Learned)
@@ -61,6 +69,22 @@ abbrev pub IsBelow : Bound → ℤ → Type 0
 IsBelow (Stuck key) value = ⊥
 IsBelow (Flow most key) value = most <ℤ value
 IsBelow Nothing value = pos 0 <ℤ value
+
+-- the flow has exactly the edges that are active in the branch
+abbrev pub StandsAt : Lists → Learning → List Pick → Type 0
+StandsAt plan learning branch = (place : ℕ) →
+    flow_edges learning.flow place ≡ active_edges learning.table plan branch place
+
+-- what is known of the branch is below a value
+pub record IsWorthMore (store : Stored) (branch : List Pick) (value : ℤ) : Type 0 where
+  pub bound : Bound
+  pub best : IsBest store branch bound
+  pub below : IsBelow bound value
+
+-- the branch is shut wherever this value is enough
+abbrev pub IsShutByValue : Stored → List Pick → ℤ → Type 0
+IsShutByValue store branch value = (state : State) (best : Option Incumbent) →
+    IsDear state.plan best branch value → IsShut state store best branch
 
 -- the best so far is a branch in which something is allowed in whole units that costs so much
 pub record IsReachedAt (state : State) (best : Incumbent) : Type 0 where
