@@ -6,6 +6,7 @@ pub mod Enough
 pub mod FlowBounds
 pub mod Found
 pub mod Learns
+pub mod Listed
 pub mod Marking
 pub mod Putting
 pub mod Ranks
