@@ -4,6 +4,7 @@
 //! A flow is moved from branch to branch (`specs/Moving.antt`).
 #![tactic(auto)]
 
+mod adding;
 mod ask;
 mod closing;
 mod cover;
