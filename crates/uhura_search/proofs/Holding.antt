@@ -1,6 +1,8 @@
 -- What a searcher keeps true.
 use Rattle.std.proofs.Common.{◌≡◌, ◌≢◌, ◌⊎◌, ℕ, ◌<◌, Bool, true, false, true≢false, List, [], ◌∷◌, length, take, get_or, replicate, Option, Some, None, inl, inr, ap, sym, subst, refl, ◌∙◌, arith, AllPairs}
 use Rattle.std.specs.Prelude.{ℤ, Contains, IsTrue, IsFalse, IsSome, IfSome, option_map}
+use Rattle.std.proofs.Math.ListN.{get_or-eq_default}
+use Rattle.std.proofs.lemmas.Bool.{cases_lt}
 use Rattle.std.proofs.lemmas.List.{length-replicate, get_or-replicate}
 use Rattle.uhura_plan.specs.declared.guard.Literal.{Literal}
 use Rattle.uhura_plan.specs.declared.limits.TheConstants.{REQUIREMENTS}
@@ -30,42 +32,51 @@ use Rattle.uhura_search.specs.Moving.{AreAmong}
 use Rattle.uhura_search.specs.Searcher.{Said, said, Searched, empty_searcher, IsSearcher, IsAsked}
 use Rattle.uhura_search.proofs.Guarded.{if-some, if-some-at, all-ask}
 
+-- a searcher that was asked nothing
+abbrev made : FlowState → Stored → ℕ → List (List Literal) → Searched
+made f s n g = record { net = f.net; settles = f.settles; added = n; store = s; guards = g; answer = None; stands = false; filled = false }
+
+-- nothing is in it
+nothing-at : (places place : ℕ) → get_or (replicate {A = Option Edge} places None) place None ≡ None
+nothing-at places place =
+    elim (cases_lt place places) [
+      | inl inside ↦ get_or-replicate places place None None inside
+      | inr past ↦ get_or-eq_default (replicate {A = Option Edge} places None) None (omega (arith, past, length-replicate {A = Option Edge} places None))
+    ]
+
+no-edge : (table : List (Option Edge)) (place : ℕ) (edge : Edge) → table ≡ replicate PLACES None → edges_of table place ≡ Some edge → ⊥
+no-edge table place edge empty is =
+    let nothing : edges_of table place ≡ None = ap (λ (t : List (Option Edge)). get_or t place None) empty ∙ nothing-at PLACES place in
+    let never : Some edge ≡ None = sym is ∙ nothing in
+    cc
+
+empty-sound : IsStore empty_store
+empty-sound = record {
+  learned = λ key. tt;
+  valid = λ key. tt;
+  listed = λ key. (λ (k, below, is). absurd (omega (arith, below)), λ there. absurd (let never : ⊥ = cc in never));
+  once = λ i j d before below. absurd (omega (arith, below));
+}
+
+empty-searcher : IsSearcher empty_searcher
+empty-searcher = record {
+  store = empty-sound;
+  slots = length-replicate {A = List Literal} REQUIREMENTS [];
+  present = λ place edge is. absurd (no-edge (replicate PLACES None) place edge refl is);
+  literals = λ key. tt;
+  kept = λ stands. absurd (let never : ⊥ = cc in never);
+  blank = λ filled. refl;
+}
+
 -- a searcher that was made without an edge, a conflict or a guard
 module _ (learning : Learning) (guards : List (List Literal)) (flow : learning.flow ≡ empty_flow) (store : learning.store ≡ empty_store) (table : learning.table ≡ replicate PLACES None)
     (added : learning.added ≡ 0) (none : guards ≡ replicate REQUIREMENTS []) where
-  made : FlowState → Stored → ℕ → List (List Literal) → Searched
-  made f s n g = record { net = f.net; settles = f.settles; added = n; store = s; guards = g; answer = None; stands = false; filled = false }
-
   pub shown-empty : shown_as learning guards None false false ≡ empty_searcher
   shown-empty =
       ap (λ (f : FlowState). made f learning.store learning.added guards) flow
       ∙ ap (λ (s : Stored). made empty_flow s learning.added guards) store
       ∙ ap (λ (n : ℕ). made empty_flow empty_store n guards) added
       ∙ ap (made empty_flow empty_store 0) none
-
-  no-edge : (place : ℕ) (edge : Edge) → edges_of (replicate PLACES None) place ≡ Some edge → ⊥
-  no-edge place edge is =
-      let nothing : edges_of (replicate PLACES None) place ≡ None = get_or-replicate PLACES None place in
-      let never : Some edge ≡ None = sym is ∙ nothing in
-      cc
-
-  empty-sound : IsStore empty_store
-  empty-sound = record {
-    learned = λ key. tt;
-    valid = λ key. tt;
-    listed = λ key. (λ (k, below, is). absurd (omega (arith, below)), λ there. absurd (let never : ⊥ = cc in never));
-    once = λ i j d before below. absurd (omega (arith, below));
-  }
-
-  empty-searcher : IsSearcher empty_searcher
-  empty-searcher = record {
-    store = empty-sound;
-    slots = length-replicate REQUIREMENTS [];
-    present = λ place edge is. absurd (no-edge place edge is);
-    literals = λ key. tt;
-    kept = λ stands. absurd (let never : ⊥ = cc in never);
-    blank = λ filled. refl;
-  }
 
   pub empty-held : IsHeldSearcher learning guards None false false
   empty-held = record {

@@ -5,7 +5,10 @@ pub mod Denials
 pub mod Enough
 pub mod FlowBounds
 pub mod Found
+pub mod Guarded
+pub mod Holding
 pub mod Learns
+pub mod Leaving
 pub mod Listed
 pub mod Marking
 pub mod Prefixed
