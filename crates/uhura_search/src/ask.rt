@@ -27,5 +27,7 @@ pub(crate) fn ask(
     ensures entered { IfOk result (LeavesEntered learning.new.store) }
     ensures kept { IsLearningFor (record { plan = plan.now; vetoes = vetoes.now }) learning.new }
 {
+    let _added = learning.added;
+    let _settles = learning.flow.settles();
     Err(AllocError)
 }

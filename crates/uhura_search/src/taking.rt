@@ -20,12 +20,7 @@ use uhura_worst::fill;
 
 /// Fills the table, gives up the conflicts that don't outlast the change, and takes the edges that changed out of the
 /// flow. Nothing is put into the flow, so that it isn't found stuck.
-pub(crate) fn take_over(
-    learning: &mut Learning,
-    guards: &mut [Guard],
-    plan: &Plan,
-    vetoes: &Vetoes,
-)
+pub(crate) fn take_over(learning: &mut Learning, guards: &mut [Guard], plan: &Plan, vetoes: &Vetoes)
     requires slots { length guards.old ≡ REQUIREMENTS }
     requires literals { AllAskForGuards guards.old learning.old.store }
     ensures kept { IsLearningFor (record { plan = plan.now; vetoes = vetoes.now }) learning.new }
