@@ -1,4 +1,5 @@
 pub mod Conversing
+pub mod Kept
 pub mod AnswersEdits
 pub mod Asking
 pub mod ShowReplays
