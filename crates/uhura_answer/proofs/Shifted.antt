@@ -1,8 +1,9 @@
 -- A schedule stays one when all its times are moved by as much. So the earliest one isn't late.
-use Rattle.std.proofs.Common.{◌≡◌, ℕ, ◌<◌, ◌≤◌, List, length, Option, None, Some, slice_get, refl, subst, arith, get_or}
-use Rattle.std.specs.Prelude.{ℤ, pos, neg_ℤ, ◌+ℤ◌, ◌-ℤ◌, ◌≤ℤ◌, unwrap_or, option_map, slice_index_or}
+use Rattle.std.proofs.Common.{◌≡◌, ℕ, ◌<◌, ◌≤◌, List, length, None, Some, slice_get, refl, inl, inr, subst, arith, get_or}
+use Rattle.std.specs.Prelude.{ℤ, pos, neg_ℤ, ◌+ℤ◌, ◌-ℤ◌, ◌≤ℤ◌, ◌⊎◌}
 use Rattle.std.specs.List.{AllByRecursion}
 use Rattle.std.proofs.lemmas.Int.{ints}
+use Rattle.std.proofs.lemmas.Option.{slice_get_cases}
 use Rattle.std.proofs.lemmas.List.Elements.{All-from_get_or, recursion_from_All}
 use Rattle.uhura_plan.specs.declared.key.SideKey.{SideKey}
 use Rattle.uhura_plan.specs.declared.key.EventRef.{EventRef}
@@ -16,7 +17,6 @@ use Rattle.uhura_worst.specs.Proposal.{time_of, CoversAllDurations, IsWithin}
 use Rattle.uhura_worst.specs.Best.{StartsAtZero}
 use Rattle.uhura_worst.proofs.SoundItems.{sound_requirement}
 use Rattle.uhura_relax.specs.Schedule.{proposal_with, scheduled_time, IsEarliestSchedule}
-use Rattle.uhura_cert.proofs.Walk.{ended_at}
 use Rattle.uhura_dual.specs.ReadOff.{IsPotential, ArePotentials}
 use Rattle.uhura_item.specs.declared.limits.TheConstants.{LATEST}
 
@@ -28,12 +28,12 @@ later_by by times e = times e +ℤ by
 time-later : (plan : Lists) (branch : List Pick) (pairs : List (SideKey × ℕ)) (times durations : ℕ → ℤ) (by : ℤ) (event : EventRef) → IsEventAmong (length plan.events) (length plan.uncertains) event →
     time_of plan (proposal_with branch pairs (later_by by times)) durations event ≡ (time_of plan (proposal_with branch pairs times) durations event +ℤ by)
 time-later plan branch pairs times durations by (Controllable e) among = refl
-time-later plan branch pairs times durations by (End d) among = started (slice_get plan.uncertains d) refl
+time-later plan branch pairs times durations by (End d) among = started (slice_get_cases plan.uncertains d).1
   where
-    started : (o : Option Uncertain) → slice_get plan.uncertains d ≡ o →
-        (unwrap_or (option_map (λ u. times u.start +ℤ by) o) (pos 0) +ℤ durations d) ≡ ((unwrap_or (option_map (λ u. times u.start) o) (pos 0) +ℤ durations d) +ℤ by)
-    started None is = absurd (omega (arith, ended_at plan.uncertains d is, among))
-    started (Some u) is = omega (arith, ints)
+    started : ((u : Uncertain) × (d < length plan.uncertains) × (slice_get plan.uncertains d ≡ Some u) × (get_or plan.uncertains d u ≡ u)) ⊎ ((length plan.uncertains ≤ d) × (slice_get plan.uncertains d ≡ None)) →
+        time_of plan (proposal_with branch pairs (later_by by times)) durations (End d) ≡ (time_of plan (proposal_with branch pairs times) durations (End d) +ℤ by)
+    started (inl there) = rw there.2 (omega (arith, ints))
+    started (inr past) = absurd (omega (arith, past.0, among))
 
 -- so it still meets all requirements
 covers-later : (plan : Lists) (branch : List Pick) (pairs : List (SideKey × ℕ)) (times : ℕ → ℤ) (by : ℤ) → IsSound plan →
