@@ -31,7 +31,7 @@ literals-among choices (c ∷ cs) place before (Alternative a ∷ xs) there foll
     let at : slice_get choices place ≡ Some c = subst (λ p. slice_get choices p ≡ Some c) e (there 0 c refl) in (
       subst (λ (o : Option Choice). IsSomeAnd o (λ d. a < length d.alternatives)) (sym at) follows.0.1,
       literals-among choices cs (place + 1) (before ++ Alternative a ∷ []) xs
-      (λ i d is. let f : place + suc i ≡ place + 1 + i = omega arith in subst (λ p. slice_get choices p ≡ Some d) f (there (suc i) d is)) follows.1,
+          (λ i d is. let f : place + suc i ≡ place + 1 + i = omega arith in subst (λ p. slice_get choices p ≡ Some d) f (there (suc i) d is)) follows.1,
     )
 
 pub branch-among : (choices : List Choice) (branch : List Pick) → IsBranch choices branch → AllByRecursion (IsLiteralAmong choices) (literals_of branch)

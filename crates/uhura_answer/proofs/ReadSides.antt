@@ -93,8 +93,8 @@ requirements-rise place i (r ∷ rs) behind stand rises =
     let here : place r.slot ≡ i + 0 = stand 0 r refl in (
       omega (arith, here),
       rises-sooner (item_place place) (place r.slot + 1) (i + 1) (requirement_items rs ++ behind) (omega (arith, here))
-      (requirements-rise place (i + 1) rs behind (λ j q there. omega (arith, stand (suc j) q there))
-      (rises-sooner (item_place place) (i + 1 + length rs) (i + suc (length rs)) behind (omega arith) rises)),
+          (requirements-rise place (i + 1) rs behind (λ j q there. omega (arith, stand (suc j) q there))
+          (rises-sooner (item_place place) (i + 1 + length rs) (i + suc (length rs)) behind (omega arith) rises)),
     )
 
 durations-rise : (place : ℕ → ℕ) (first count least : ℕ) → least ≤ REQUIREMENTS + first → Rises (item_place place) least (map (λ d. item.Uncertain d) (range_with_len first count))

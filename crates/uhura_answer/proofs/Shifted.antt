@@ -43,7 +43,7 @@ covers-later plan branch pairs times by sound covers durations left r member act
     let to = time-later plan branch pairs times durations by r.to is.to in
     let from = time-later plan branch pairs times durations by r.from is.from in
     let same : (time_of plan (proposal_with branch pairs times) durations r.to -ℤ time_of plan (proposal_with branch pairs times) durations r.from)
-        ≡ (time_of plan (proposal_with branch pairs (later_by by times)) durations r.to -ℤ time_of plan (proposal_with branch pairs (later_by by times)) durations r.from) = omega (arith, ints, to, from) in
+    ≡ (time_of plan (proposal_with branch pairs (later_by by times)) durations r.to -ℤ time_of plan (proposal_with branch pairs (later_by by times)) durations r.from) = omega (arith, ints, to, from) in
     let within : IsWithin 1 (proposal_with branch pairs times) r (time_of plan (proposal_with branch pairs (later_by by times)) durations r.to -ℤ time_of plan (proposal_with branch pairs (later_by by times)) durations r.from) =
     subst (IsWithin 1 (proposal_with branch pairs times) r) same (covers durations left r member active) in
     record { lower = within.lower; upper = within.upper }
