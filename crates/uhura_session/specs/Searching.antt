@@ -38,7 +38,8 @@ SearchesCommand command.Prove state old new = new ≡ old
 SearchesCommand c state old new = SearchesEdit (refusal_of state c) old new
 
 -- a line that has no command, or is refused as it is read, leaves it as it was
-abbrev pub SearchesParsed : Result (Option Command) LineRefusal → State → Searched → Searched → Type 0
+abbrev pub SearchesParsed :
+    Result (Option Command) LineRefusal → State → Searched → Searched → Type 0
 SearchesParsed (Ok None) state old new = new ≡ old
 SearchesParsed (Ok (Some c)) state old new = SearchesCommand c state old new
 SearchesParsed (Err refusal) state old new = new ≡ old

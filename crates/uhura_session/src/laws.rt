@@ -32,12 +32,13 @@ pub fn slots_change_no_answer()
         IsSameButForSlots a b }
 {}
 
-/// After an answered question its answer stands. While it stands, no line but an accepted edit changes anything of the
-/// searcher, so a question that is asked again settles and pushes nothing. An accepted edit ends that.
+/// After an answered question its answer stands. While it stands, no line but an accepted edit changes anything of
+/// the searcher, so a question that is asked again settles and pushes nothing. An accepted edit ends that.
 pub fn answers_stand_until_an_edit()
     ensures stands { (old new : Searched) (plan : Lists) → IsAnswered old new plan →
         IsTrue new.stands }
     ensures kept { (state : State) (line : List ℕ) (old new : Searched) → IsTrue old.stands →
         Searches state line old new → (new ≡ old) ⊎ IsRevised old new }
-    ensures edited { (old new : Searched) → IsSearcher old → IsRevised old new → IsFalse new.stands }
+    ensures edited { (old new : Searched) → IsSearcher old → IsRevised old new →
+        IsFalse new.stands }
 {}

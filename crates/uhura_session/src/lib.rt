@@ -1,5 +1,5 @@
-//! One dialogue: what is answered to a line, and the state after it (`specs/Answers.antt`). What was learned of a plan
-//! is kept while the plan is edited (`specs/Searching.antt`).
+//! One dialogue: what is answered to a line, and the state after it (`specs/Answers.antt`). What was learned of a
+//! plan is kept while it is edited (`specs/Searching.antt`).
 #![tactic(auto)]
 
 mod answer;

@@ -39,7 +39,8 @@ fn put_answer(
     answer: &Option<Proposal>,
 ) -> Result<(), AllocError>
     requires { IfSome answer.now (IsProposal state.now.plan) }
-    ensures { OnOk result (text.new.items ≡ text.old.items ++ answer_text state.now.plan answer.now) }
+    ensures { OnOk result
+        (text.new.items ≡ text.old.items ++ answer_text state.now.plan answer.now) }
 {
     match answer {
         Some(proposal) => write_proposal(text, state, proposal),

@@ -60,8 +60,8 @@ impl Session {
     }
 
     /// Answers a line, without its newline and its CR. Of a line of more than 4,096 bytes the first 4,097 are enough.
-    /// An accepted edit revises the searcher, `propose` asks it, and no other line changes it. After want of memory the
-    /// state is as before, and the searcher may be asked again.
+    /// An accepted edit revises the searcher, `propose` asks it, and no other line changes it. After want of memory
+    /// the state is as before, and the searcher may be asked again.
     pub fn line(&mut self, line: &[u8]) -> Result<Answer<'_>, AllocError>
         ensures* answers { sem 𝓛 (LeavesAnswer self.entry line.now result) }
     {
