@@ -13,3 +13,5 @@ mod loosenings;
 mod nets;
 #[cfg(test)]
 mod searches;
+#[cfg(test)]
+mod sessions;
