@@ -3,6 +3,7 @@ use Rattle.std.proofs.Common.{◌≡◌, ℕ, ◌*◌, ◌≤◌, List, refl, sy
 use Rattle.std.specs.Prelude.{ℤ, length}
 use Rattle.uhura_plan.specs.declared.key.SideKey.{SideKey}
 use Rattle.uhura_plan.specs.declared.guard.Literal.{Literal}
+use Rattle.uhura_plan.specs.Lists.{Lists}
 use Rattle.uhura_plan.specs.Sound.{IsSound}
 use Rattle.uhura_choice.specs.declared.prefix.Pick.{Pick}
 use Rattle.uhura_net.specs.Edges.{time_at}
@@ -28,8 +29,14 @@ use Rattle.uhura_answer.proofs.ReadSides.{sides-stated}
 use Rattle.uhura_answer.proofs.Bounds.{units-most, cost-most}
 use Rattle.uhura_answer.proofs.Shifted.{times-within}
 
-module _ (state : State) (branch : List Pick) (all : ℕ) (potentials : List ℤ) (pairs : List (SideKey × ℕ)) (sound : IsSound state.plan) (found : IsFound state branch all potentials)
-    (units : (key : SideKey) → side_units pairs key ≡ passed_side state.plan branch (time_at potentials) key) where
+module _ (state : State) (branch : List Pick) (all : ℕ) (potentials : List ℤ) (pairs : List (SideKey × ℕ)) (plan : Lists) (is_plan : plan ≡ state.plan) (sound_plan : IsSound plan) (found : IsFound state branch all potentials)
+    (given : (key : SideKey) → side_units pairs key ≡ passed_side plan branch (time_at potentials) key) where
+  sound : IsSound state.plan
+  sound = subst IsSound is_plan sound_plan
+
+  units : (key : SideKey) → side_units pairs key ≡ passed_side state.plan branch (time_at potentials) key
+  units key = subst (λ (lists : Lists). side_units pairs key ≡ passed_side lists branch (time_at potentials) key) is_plan (given key)
+
   -- the proposal that takes the potentials, and the same by its pairs
   abbrev taken : Proposal
   taken = proposal_at state.plan 1 branch (time_at potentials)
@@ -72,7 +79,7 @@ module _ (state : State) (branch : List Pick) (all : ℕ) (potentials : List ℤ
         }
 
     -- and it can be stated
-    pub stated-with : (p : Stated) → pairs ≡ passed_sides state.plan branch potentials → IsLoosening pairs → p.cost ≡ all → p.picks ≡ literals_of branch → p.loosening ≡ pairs → p.times ≡ schedule →
+    pub stated-with : (p : Stated) → pairs ≡ passed_sides plan branch potentials → IsLoosening pairs → p.cost ≡ all → p.picks ≡ literals_of branch → p.loosening ≡ pairs → p.times ≡ schedule →
         IsStatedWith state branch all p
     stated-with p read_off sound_pairs costs picks loosened timed =
         let picked : picks_of p.picks (length state.plan.choices) ≡ branch =
@@ -85,7 +92,7 @@ module _ (state : State) (branch : List Pick) (all : ℕ) (potentials : List ℤ
               cost = rw costs (rw timed-costs at most);
               picks = rw picks (branch-among state.plan.choices branch found.1.is_branch);
               picks_in_order = rw picks (literals-rise 0 0 branch (lit≤ tt));
-              sides = rw loosened (sides-stated state.plan branch potentials pairs sound read_off sound_pairs);
+              sides = rw loosened (sides-stated state.plan branch potentials pairs sound (subst (λ (lists : Lists). pairs ≡ passed_sides lists branch potentials) is_plan read_off) sound_pairs);
               times = rw timed earliest.events;
               times_within = rw timed (times-within state.plan branch pairs potentials schedule sound found.1.within read-allowed.covers earliest);
             };
