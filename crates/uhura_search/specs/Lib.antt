@@ -1,6 +1,7 @@
 pub mod Answer
 pub mod Appended
 pub mod Asked
+pub mod Bounds
 pub mod Closed
 pub mod Guards
 pub mod Held
