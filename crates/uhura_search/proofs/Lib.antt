@@ -1,6 +1,7 @@
 pub mod Active
 pub mod Answering
 pub mod Appending
+pub mod Bettering
 pub mod Denials
 pub mod Enough
 pub mod FlowBounds
