@@ -16,6 +16,7 @@ pub mod Reasons
 pub mod Shorter
 pub mod Showing
 pub mod Shown
+pub mod Small
 pub mod Still
 pub mod Valid
 pub mod Values
