@@ -1,6 +1,8 @@
 -- What a branch costs beside the best so far.
 use Rattle.std.proofs.Common.{◌≡◌, ℕ, List, [], ◌∷◌, length, Option, Some, None, inl, inr, refl, sym, ap, subst, ◌∙◌, lit≤, append-nil, arith}
-use Rattle.std.specs.Prelude.{ℤ, pos, ◌+ℤ◌, ◌≤ℤ◌, ◌<ℤ◌, ◌^◌, ◌⊎◌, IfSome, is_some, option_map, find, false}
+use Rattle.std.specs.Prelude.{ℤ, pos, ◌+ℤ◌, ◌≤ℤ◌, ◌<ℤ◌, ◌^◌, ◌⊎◌, IfSome, is_some, option_map, find, Bool, true, false, if◌then◌else◌}
+use Rattle.std.specs.List.{list_any}
+use Rattle.std.proofs.Math.ListN.{get_or-eq_default}
 use Rattle.std.proofs.lemmas.Int.{ints, by_lt_z}
 use Rattle.uhura_plan.specs.Lists.{Lists}
 use Rattle.uhura_plan.specs.Sound.{IsSound}
@@ -13,15 +15,21 @@ use Rattle.uhura_choice.proofs.Prefixes.{length-follows}
 use Rattle.uhura_net.specs.Edges.{time_at}
 use Rattle.uhura_net.specs.Net.{net_value}
 use Rattle.uhura_flow.specs.Flow.{flow_edges, flow_units, flow_potentials, IsFlow}
+use Rattle.uhura_plan.specs.declared.key.EdgeKey.{EdgeKey}
+use Rattle.uhura_net.specs.declared.edge.Edge.{Edge}
+use Rattle.uhura_net.specs.Place.{place_number}
+use Rattle.uhura_net.specs.Circulation.{edges_of}
 use Rattle.uhura_veto.specs.declared.veto.Veto.{Veto}
 use Rattle.uhura_veto.specs.State.{State}
 use Rattle.uhura_veto.specs.Denial.{denies, denied_by, is_denied}
 use Rattle.uhura_veto.specs.Vetoes.{veto_name}
-use Rattle.uhura_veto.proofs.Denials.{is_denied-found}
 use Rattle.uhura_worst.specs.Cost.{cost}
+use Rattle.uhura_worst.specs.Edges.{is_active_edge}
+use Rattle.uhura_worst.specs.Filled.{IsTableOf}
 use Rattle.uhura_worst.specs.WorstCase.{proposal_at}
 use Rattle.uhura_worst.proofs.PassedUnits.{keeping-allowed}
 use Rattle.uhura_dual.specs.Settled.{AreAllSettled, worth_with}
+use Rattle.uhura_dual.proofs.KeysAt.{key_at-place_number}
 use Rattle.uhura_dual.proofs.ReadOff.{optimal-worth}
 use Rattle.uhura_dual.proofs.Settling.{firm-among}
 use Rattle.uhura_conflict.specs.Learned.{Learned}
@@ -32,7 +40,7 @@ use Rattle.uhura_search.specs.declared.learning.Learning.{Learning}
 use Rattle.uhura_search.specs.Shut.{IsSmallCost, IsEnough, IsDear, IsShut, IsBetter, left_of}
 use Rattle.uhura_search.specs.Closed.{NoneBegins}
 use Rattle.uhura_search.specs.Asked.{AddsAll, LearnsSome}
-use Rattle.uhura_search.specs.Learning.{StandsAt, IsReachedAt, IsAt, IsBettered, IsShutByValue, Closes}
+use Rattle.uhura_search.specs.Learning.{IsLearningFor, IsReady, StandsAt, IsReachedAt, IsAt, IsBettered, IsShutByValue, Closes}
 use Rattle.uhura_search.proofs.Enough.{earlier-enough, later-enough, same-enough}
 use Rattle.uhura_search.proofs.Still.{shut-more, shut-better, shut-first}
 use Rattle.uhura_search.proofs.Valid.{net-value}
@@ -87,15 +95,24 @@ shut-bettered state store branch value (Some best) new prefix is_best is_branch 
     subst (λ (o : Option Incumbent). IsShut state store o prefix) (sym at.is)
     (shut-better state store best at.incumbent prefix better (λ begins. apart (subst (λ b. IsFrontOf prefix b) at.branch_is begins)) shut)
 
+-- a first one that passes is there where one passes
+is_some-find : (f : Veto → Bool) (vetoes : List Veto) → is_some (find f vetoes) ≡ list_any f vetoes
+is_some-find f [] = refl
+is_some-find f (v ∷ vetoes) = by (f v) refl (is_some-find f vetoes)
+  where
+    by : (b : Bool) → f v ≡ b → is_some (find f vetoes) ≡ list_any f vetoes → is_some (find f (v ∷ vetoes)) ≡ list_any f (v ∷ vetoes)
+    by true passes rest = rw passes refl
+    by false fails rest = rw fails rest
+
 -- a branch that isn't shut isn't denied
 pub open-allowed : (state : State) (store : Stored) (best : Option Incumbent) (branch : List Pick) → (IsShut state store best branch → ⊥) → is_denied state.vetoes branch ≡ false
-open-allowed state store best branch open = by (find (denies branch) state.vetoes) refl
+open-allowed state store best branch none = by (find (denies branch) state.vetoes) refl
   where
     by : (o : Option Veto) → o ≡ find (denies branch) state.vetoes → is_denied state.vetoes branch ≡ false
-    by None found = sym (is_denied-found state.vetoes branch None found)
+    by None found = sym (is_some-find (denies branch) state.vetoes) ∙ ap is_some (sym found)
     by (Some v) found =
         let named : denied_by state.vetoes branch ≡ Some (veto_name v) = ap (option_map veto_name) (sym found) in
-        absurd (open (record { reason = Denied (veto_name v); is_reason = named }))
+        absurd (none (record { reason = Denied (veto_name v); is_reason = named }))
 
 -- where the flow stands at a branch that isn't denied, what is read off its potentials is allowed, and costs what the
 -- flow is worth and the picks
@@ -115,3 +132,50 @@ stands-reached state learning branch value new sound is_branch not_denied flow s
       same = sym same;
       costs = omega (arith, ints, worth_is, net-value learning.flow.net, worth, costs);
     }
+
+-- where the flow stands at a branch it has the settled edges, all of them
+pub stands-settled : (state : State) (learning : Learning) (branch : List Pick) → IsTableOf state learning.table → IsFlow learning.flow → StandsAt state.plan learning branch → AreAllSettled state branch (flow_edges learning.flow)
+stands-settled state learning branch is_table flow stands = record {
+  each = λ key placed.
+      stands (place_number key)
+      ∙ (ap (λ (k : EdgeKey). if is_active_edge state.plan branch k then edges_of learning.table (place_number key) else None) (key_at-place_number key placed)
+      ∙ ap (λ (edge : Option Edge). if is_active_edge state.plan branch key then edge else None) (is_table key placed));
+  none = λ place behind. get_or-eq_default learning.flow.net.edges None (omega (arith, flow.sound.places, behind));
+}
+
+-- the table is the state's
+pub table-of : (state : State) (learning : Learning) → IsLearningFor state learning → IsTableOf state learning.table
+table-of state learning kept = subst (λ (t : List (Option Edge)). IsTableOf state t) kept.table kept.store.table
+
+pub reached-branch : (state : State) (best : Option Incumbent) → IfSome best (IsReachedAt state) → IfSome best (λ i. IsBranch state.plan.choices i.branch)
+reached-branch state None reached = tt
+reached-branch state (Some best) reached = reached.is_branch
+
+pub reached-small : (state : State) (best : Option Incumbent) → IfSome best (IsReachedAt state) → IfSome best IsSmallCost
+reached-small state None reached = tt
+reached-small state (Some best) reached = reached.small
+
+-- what comes of a look at a branch that is open
+module _ (state : State) (old new : Learning) (branch : List Pick) (value : ℤ) (before after : Option Incumbent) (ready : IsReady state old) (is_branch : IsBranch state.plan.choices branch) (stands : StandsAt state.plan old branch)
+    (flow : IsFlow old.flow) (worth : value ≡ net_value old.flow.net) (reached : IfSome before (IsReachedAt state)) (none : NoneBegins (IsShut state old.store before) branch)
+    (bettered : IsBettered state.plan branch value before after) (small : IfSome after IsSmallCost) where
+  looked-reached : IfSome after (IsReachedAt state)
+  looked-reached = by bettered
+    where
+      by : IsBettered state.plan branch value before after → IfSome after (IsReachedAt state)
+      by (inl kept) = subst (λ (o : Option Incumbent). IfSome o (IsReachedAt state)) (sym kept.1) reached
+      by (inr (cheap, at)) =
+          let not_denied = open-allowed state old.store before branch (λ shut. none branch ([], sym (append-nil branch)) shut) in
+          let settled = stands-settled state old branch (table-of state old ready.kept) flow stands in
+          subst (λ (o : Option Incumbent). IfSome o (IsReachedAt state)) (sym at.is)
+          (stands-reached state old branch value at.incumbent ready.sound is_branch not_denied flow settled worth at.branch_is at.cost_is (subst (λ (o : Option Incumbent). IfSome o IsSmallCost) at.is small))
+
+  pub look-closes : LearnsSome state.plan.choices old new → IsShutByValue new.store branch value → Closes state old new before after branch
+  look-closes learns by_value = record {
+    learns = learns;
+    reached = looked-reached;
+    shut = by_value state after (bettered-dear state.plan branch value before after bettered);
+    kept = λ front shut.
+        shut-bettered state new.store branch value before after front (reached-branch state before reached) is_branch bettered (λ begins. none front begins shut)
+        (shut-all state old.store new.store learns.learned before front learns.has_learned.adds shut);
+  }
