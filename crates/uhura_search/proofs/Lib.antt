@@ -1,6 +1,7 @@
 pub mod Active
 pub mod Answering
 pub mod Appending
+pub mod Bettering
 pub mod Bounding
 pub mod Denials
 pub mod Enough
@@ -21,6 +22,7 @@ pub mod Reguarding
 pub mod Shorter
 pub mod Showing
 pub mod Shown
+pub mod Small
 pub mod Still
 pub mod Valid
 pub mod Values

@@ -1,5 +1,5 @@
 -- What is kept to learn from, for the questions of a state, and what is learned at a branch.
-use Rattle.std.specs.Prelude.{◌≡◌, ◌⊎◌, ◌<◌, ◌^◌, ◌≤◌, ℕ, ℤ, pos, ◌+ℤ◌, ◌<ℤ◌, List, Option, Some, IfSome}
+use Rattle.std.specs.Prelude.{◌≡◌, ◌⊎◌, ◌<◌, ◌^◌, ◌≤◌, ℕ, ℤ, pos, ◌+ℤ◌, ◌<ℤ◌, ◌≤ℤ◌, List, Option, Some, IfSome}
 use Rattle.uhura_plan.specs.Sound.{IsSound}
 use Rattle.uhura_plan.specs.Lists.{Lists}
 use Rattle.uhura_choice.specs.declared.prefix.Pick.{Pick}
@@ -94,6 +94,11 @@ pub record IsReachedAt (state : State) (best : Incumbent) : Type 0 where
   pub allowed : Allowed state 1 proposal
   pub same : proposal.branch ≡ best.branch
   pub costs : cost state.plan 1 proposal ≡ best.cost
+
+-- a value that costs and picks leave room for
+pub record IsCostValue (value : ℤ) : Type 0 where
+  pub least : pos 0 ≤ℤ value
+  pub most : value ≤ℤ pos (2 ^ 99)
 
 -- the best so far is this branch, at what its value and its picks cost
 pub record IsAt (plan : Lists) (branch : List Pick) (value : ℤ) (best : Option Incumbent)

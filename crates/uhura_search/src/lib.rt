@@ -20,6 +20,7 @@ mod outcome;
 mod searcher;
 mod shut;
 mod taking;
+mod trying;
 
 pub use leaf::{LeafNote, LeafReason};
 pub use outcome::Outcome;
