@@ -7,6 +7,7 @@ pub mod Denials
 pub mod Enough
 pub mod FlowBounds
 pub mod Found
+pub mod Fronting
 pub mod Guarded
 pub mod Holding
 pub mod Learns

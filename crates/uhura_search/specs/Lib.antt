@@ -3,6 +3,7 @@ pub mod Appended
 pub mod Asked
 pub mod Bounds
 pub mod Closed
+pub mod Fronts
 pub mod Guards
 pub mod Held
 pub mod Known

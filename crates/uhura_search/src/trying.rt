@@ -39,7 +39,7 @@ fn cost_with(plan: &Plan, branch: &Branch, value: i128) -> u128
 }
 
 /// The value of a flow.
-fn value_of(flow: &Flow) -> i128
+pub(crate) fn value_of(flow: &Flow) -> i128
     ensures value { result ≡ net_value flow.now.net }
     ensures cost { IsCostValue result }
     ensures sound { IsFlow flow.now }
