@@ -25,6 +25,7 @@ pub mod Showing
 pub mod Shown
 pub mod Small
 pub mod Still
+pub mod Touched
 pub mod Valid
 pub mod Values
 pub mod Walked

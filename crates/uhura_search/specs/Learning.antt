@@ -41,12 +41,11 @@ pub record IsReady (state : State) (learning : Learning) : Type 0 where
   pub bounds : HasFlowBounds learning.table
   pub counts : AreCounts learning
 
--- what was learned is as before, and so are the places; units were pushed at most
+-- what was learned is as before; units were pushed at most
 pub record KeepsLearned (old new : Learning) : Type 0 where
   pub store : new.store ≡ old.store
   pub added : new.added ≡ old.added
   pub table : new.table ≡ old.table
-  pub places : new.places.items ≡ old.places.items
   pub pushes : old.flow.net.pushes ≤ new.flow.net.pushes
 
 -- a conflict that applies to a branch comes into the store, where it exceeds all that is known of the branch, and is

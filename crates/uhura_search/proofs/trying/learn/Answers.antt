@@ -24,7 +24,7 @@ returns-in-Stuck-clause-closes c =
     let new = c.add_stuck.new.learning in
     let branch = c.args.branch.now in
     let best = c.args.best.now in
-    let keeps : KeepsLearned old stuck = record { store = refl; added = refl; table = refl; places = refl; pushes = c.in-Stuck.ensures.pushes } in
+    let keeps : KeepsLearned old stuck = record { store = refl; added = refl; table = refl; pushes = c.in-Stuck.ensures.pushes } in
     on_ok_weaker c.add_stuck.result
     (λ has. record {
       learns = learns-one c.args.plan.now old stuck new branch has.0 c.requires.is_branch keeps c.in-Stuck.ensures.settles has.2;
@@ -40,7 +40,7 @@ returns-in-Stuck-clause-stops c =
     let stuck : Learning = record old { flow = c.move_to.new.flow } in
     let new = c.add_stuck.new.learning in
     let choices = c.args.plan.now.choices in
-    let keeps : KeepsLearned old stuck = record { store = refl; added = refl; table = refl; places = refl; pushes = c.in-Stuck.ensures.pushes } in
+    let keeps : KeepsLearned old stuck = record { store = refl; added = refl; table = refl; pushes = c.in-Stuck.ensures.pushes } in
     either c.add_stuck.result c.add_stuck.ensures.ok c.add_stuck.ensures.err
     (λ has. some-or_stops choices old new (learns-one c.args.plan.now old stuck new c.args.branch.now has.0 c.requires.is_branch keeps c.in-Stuck.ensures.settles has.2))
     (λ same. subst (λ (l : Learning). LearnsOrStops choices old l) (sym same) (stops-settled choices old stuck c.requires.ready.counts keeps c.in-Stuck.ensures.settles))
