@@ -20,6 +20,7 @@ pub mod Ranks
 pub mod Ready
 pub mod Reasons
 pub mod Reguarding
+pub mod Resuming
 pub mod Shorter
 pub mod Showing
 pub mod Shown
