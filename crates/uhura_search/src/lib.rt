@@ -16,6 +16,7 @@ mod learning;
 pub mod moving;
 mod outcome;
 mod shut;
+mod solving;
 mod trying;
 
 pub use leaf::{LeafNote, LeafReason};
