@@ -25,6 +25,7 @@ pub mod Shorter
 pub mod Showing
 pub mod Shown
 pub mod Small
+pub mod Solved
 pub mod Still
 pub mod Touched
 pub mod Valid

@@ -1,10 +1,10 @@
 -- How many nodes the edges of a plan touch.
 use Rattle.std.proofs.Common.{◌≡◌, ℕ, zero, suc, ◌+◌, ◌*◌, ◌<◌, ◌≤◌, Bool, true, false, Option, None, Some, inl, inr, refl, sym, ap, subst, ◌∙◌, arith}
-use Rattle.std.specs.Prelude.{◌⊎◌, ◌==◌, ◌||◌, nat_lt, IfSome, ℤ, neg_ℤ, List, length, option_map, option_and_then, slice_get, Contains, if◌then◌else◌}
-use Rattle.std.proofs.lemmas.Bool.{cases_eq, cases_lt, eqb-true}
+use Rattle.std.specs.Prelude.{◌⊎◌, ◌==◌, ◌||◌, IfSome, ℤ, neg_ℤ, List, length, option_map, option_and_then, slice_get, if◌then◌else◌}
+use Rattle.std.proofs.lemmas.Bool.{cases_lt, eqb-true}
 use Rattle.std.proofs.lemmas.Option.{slice_get_within}
 use Rattle.uhura_plan.specs.Lists.{Lists}
-use Rattle.uhura_plan.specs.Sound.{IsSound, IsSoundRequirement, IsEventAmong}
+use Rattle.uhura_plan.specs.Sound.{IsSound, IsEventAmong}
 use Rattle.uhura_plan.specs.Find.{requirement_in}
 use Rattle.uhura_plan.specs.Sides.{loosening_rate, rate_of}
 use Rattle.uhura_plan.specs.declared.key.Side.{Side}
@@ -25,7 +25,7 @@ use Rattle.uhura_net.specs.declared.edge.TheConstants.{NODES}
 use Rattle.uhura_net.specs.declared.place.TheConstants.{PLACES}
 use Rattle.uhura_net.specs.Edges.{Edges}
 use Rattle.uhura_net.specs.Sums.{sum_below}
-use Rattle.uhura_net.proofs.Sums.{sum_below-le, sum_below-append}
+use Rattle.uhura_net.proofs.Sums.{sum_below-most, sum_below-append}
 use Rattle.uhura_flow.specs.Reading.{touches, is_touched, touched_nodes}
 use Rattle.uhura_veto.specs.declared.veto.Veto.{Veto}
 use Rattle.uhura_veto.specs.declared.room.Room.{Room}
@@ -41,12 +41,29 @@ use Rattle.uhura_dual.specs.Settled.{AreSettled}
 abbrev pub IsNodeOf : ℕ → ℕ → ℕ → Type 0
 IsNodeOf events durations node = (node < events) ⊎ ((512 ≤ node) × (node < 512 + 2 * durations))
 
+-- ones at the first numbers alone
+ones-most : (n most : ℕ) (f : ℕ → ℕ) → ((i : ℕ) → f i ≤ 1) → ((i : ℕ) → most ≤ i → i < n → f i ≡ 0) → sum_below n f ≤ most
+unfolding sum_below
+ones-most zero most f one none = omega arith
+ones-most (suc n) most f one none =
+    elim (cases_lt n most) [
+      | inl less ↦ omega (arith, less, sum_below-most n 1 f (λ i _. one i), one n)
+      | inr more ↦ omega (arith, none n more (omega arith), ones-most n most f one (λ i past below. none i past (omega (arith, below))))
+    ]
+
+abbrev bit : Bool → ℕ
+bit b = if b then 1 else 0
+
+at_most : (b : Bool) → bit b ≤ 1
+at_most true = omega arith
+at_most false = omega arith
+
 module _ (events durations : ℕ) where
   record HasNodesOf (from to : ℕ) : Type 0 where
     start : IsNodeOf events durations from
     end : IsNodeOf events durations to
 
-  AreOf : Option Edge → Type 0
+  abbrev AreOf : Option Edge → Type 0
   AreOf o = IfSome o (λ e. HasNodesOf e.from e.to)
 
   -- the edges of a constraint have its nodes
@@ -116,17 +133,57 @@ module _ (events durations : ℕ) where
   touched : (n : ℕ) (edges : Edges) (node : ℕ) → ((place : ℕ) → AreOf (edges place)) → is_touched n edges node ≡ true → IsNodeOf events durations node
   unfolding is_touched
   touched zero edges node nodes it = absurd (let never : ⊥ = cc in never)
-  touched (suc n) edges node nodes it = by (is_touched n edges node) refl it
+  touched (suc n) edges node nodes it = by (is_touched n edges node) refl (λ before. touched n edges node nodes before) it
     where
-      by : (b : Bool) → is_touched n edges node ≡ b → (b || touches (edges n) node) ≡ true → IsNodeOf events durations node
-      by true before it = touched n edges node nodes before
-      by false before it = one_of (edges n) node (nodes n) it
+      by : (b : Bool) → is_touched n edges node ≡ b → (is_touched n edges node ≡ true → IsNodeOf events durations node) → (b || touches (edges n) node) ≡ true → IsNodeOf events durations node
+      by true before earlier it = earlier before
+      by false before earlier it = one_of (edges n) node (nodes n) it
 
-  -- the nodes counted
-  count : ℕ → ℕ → ℕ
-  count from node = if nat_lt node from then 1 else 0
+  -- so nothing is touched elsewhere
+  untouched : (edges : Edges) (node : ℕ) → ((place : ℕ) → AreOf (edges place)) → (IsNodeOf events durations node → ⊥) → bit (is_touched PLACES edges node) ≡ 0
+  untouched edges node nodes none = by (is_touched PLACES edges node) refl
+    where
+      by : (b : Bool) → is_touched PLACES edges node ≡ b → bit b ≡ 0
+      by true it = absurd (none (touched PLACES edges node nodes it))
+      by false it = refl
 
-  few : (n most : ℕ) → sum_below n (λ i. if nat_lt i most then 1 else 0) ≤ most
-  unfolding sum_below
-  few zero most = omega arith
-  few (suc n) most = ?
+  few : (edges : Edges) → events ≤ 512 → ((place : ℕ) → AreOf (edges place)) → touched_nodes edges ≤ events + 2 * durations
+  few edges within nodes =
+      let at : ℕ → ℕ = λ node. bit (is_touched PLACES edges node) in
+      let parts : sum_below (512 + 512) at ≡ sum_below 512 at + sum_below 512 (λ i. at (512 + i)) = sum_below-append 512 512 at in
+      let first : sum_below 512 at ≤ events =
+      ones-most 512 events at (λ i. at_most (is_touched PLACES edges i))
+      (λ i past below. untouched edges i nodes (λ is. elim is [ inl less ↦ omega (arith, less, past) | inr ends ↦ omega (arith, ends.0, below) ])) in
+      let last : sum_below 512 (λ i. at (512 + i)) ≤ 2 * durations =
+      ones-most 512 (2 * durations) (λ i. at (512 + i)) (λ i. at_most (is_touched PLACES edges (512 + i)))
+      (λ i past below. untouched edges (512 + i) nodes (λ is. elim is [ inl less ↦ omega (arith, less, within) | inr ends ↦ omega (arith, ends.1, past) ])) in
+      omega (arith, parts, first, last)
+
+-- the edges of a state have nodes of its plan
+of_item : (state : State) (key : EdgeKey) (of : Item) → IsSound state.plan → AreOf (length state.plan.events) (length state.plan.uncertains) (edge_in state key of)
+of_item state key (item.Requirement slot) sound = by (requirement_in state.plan slot) refl
+  where
+    by : (o : Option Requirement) → requirement_in state.plan slot ≡ o → AreOf (length state.plan.events) (length state.plan.uncertains) (option_and_then (λ (r : Requirement). requirement_edge state.vetoes r key) o)
+    by None found = tt
+    by (Some r) found =
+        let is = sound_requirement state.plan r sound (Contains-found (λ (q : Requirement). q.slot == slot) state.plan.requirements r found) in
+        of_requirement (length state.plan.events) (length state.plan.uncertains) state.vetoes r key is.from is.to
+of_item state key (item.Uncertain d) sound = by (slice_get state.plan.uncertains d) refl
+  where
+    by : (o : Option Uncertain) → slice_get state.plan.uncertains d ≡ o → AreOf (length state.plan.events) (length state.plan.uncertains) (option_and_then (λ (u : Uncertain). duration_edge state.vetoes d u key) o)
+    by None found = tt
+    by (Some u) found = of_duration (length state.plan.events) (length state.plan.uncertains) state.vetoes d u key (sound_uncertain state.plan d u sound found).start (slice_get_within state.plan.uncertains d u found)
+
+-- so those that are settled touch at most 768 nodes
+pub touched-few : (state : State) (picks : List Pick) (edges : Edges) → IsSound state.plan → AreSettled state picks edges → touched_nodes edges ≤ 768
+touched-few state picks edges sound settled =
+    let events = length state.plan.events in
+    let durations = length state.plan.uncertains in
+    let most : touched_nodes edges ≤ events + 2 * durations = few events durations edges (omega (arith, sound.counts.events)) (λ place. by place (edges place) refl) in
+    omega (arith, most, sound.counts.events, sound.counts.uncertains)
+  where
+    by : (place : ℕ) (o : Option Edge) → edges place ≡ o → AreOf (length state.plan.events) (length state.plan.uncertains) o
+    by place None is = tt
+    by place (Some edge) is =
+        let at = settled place edge is in
+        subst (AreOf (length state.plan.events) (length state.plan.uncertains)) at.there (of_item state at.key (item_of at.key) sound)

@@ -19,6 +19,7 @@ pub mod moving;
 mod outcome;
 mod searcher;
 mod shut;
+mod solving;
 mod stepping;
 mod taking;
 mod trying;
