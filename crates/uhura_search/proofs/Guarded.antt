@@ -30,7 +30,7 @@ use Rattle.uhura_conflict.specs.Store.{Stored, conflict_at, IsStore, if_it_outla
 use Rattle.uhura_conflict.specs.Kept.{outlasts}
 use Rattle.uhura_search.specs.Guards.{guard_at, HaveGuardsOf, IsGuardedAt, AsksForGuards, IsWithoutReguarded, AllAskForGuards}
 use Rattle.uhura_search.specs.Known.{IsStoreFor}
-use Rattle.uhura_search.proofs.Reguarding.{slot-of-item}
+use Rattle.uhura_search.proofs.Shown.{slot-item}
 
 -- what holds of a value that is there
 pub if-some : {X : Type 0} (P : X → Type 0) (o : Option X) → ((x : X) → o ≡ Some x → P x) → IfSome o P
@@ -127,7 +127,7 @@ module _ (state : State) (table : List (Option Edge)) (guards : List (List Liter
   requirement-there : (place slot : ℕ) → IsSome (edges_of table place) → IsOfSlot place slot → (r : Requirement) × (requirement_in state.plan slot ≡ Some r)
   requirement-there place slot there (key, (placed, number), of_slot) =
       found (requirement_in state.plan slot) refl
-      (ap (edges_of table) (sym number) ∙ is_table key placed ∙ ap (edge_among (tables_under state.vetoes) state.plan key) (of-requirement (item_of key) slot (sym (slot-of-item key) ∙ of_slot)))
+      (ap (edges_of table) (sym number) ∙ is_table key placed ∙ ap (edge_among (tables_under state.vetoes) state.plan key) (of-requirement (item_of key) slot (sym (slot-item key) ∙ of_slot)))
     where
       found : (o : Option Requirement) → requirement_in state.plan slot ≡ o → edges_of table place ≡ option_and_then (λ r. (tables_under state.vetoes).of_requirement r key) o →
           (r : Requirement) × (requirement_in state.plan slot ≡ Some r)

@@ -145,3 +145,11 @@ from-said net state (outcome.None leaves) answer = record { answer = answer; sol
 pub said-alike : (net : NetState) (state : State) (one other : Outcome) → said one ≡ said other → IsAsked net state one → IsAsked net state other
 said-alike net state one other same asked =
     from-said net state other (subst (λ (s : Said). IsSaidFor net state s.leaves s.found) same (to-said net state one asked))
+
+-- an answer stands only after a first question
+pub stands-filled : (searcher : Searched) → IsSearcher searcher → IsTrue searcher.stands → IsTrue searcher.filled
+stands-filled searcher sound stands = by searcher.filled refl
+  where
+    by : (b : Bool) → searcher.filled ≡ b → b ≡ true
+    by true filled = refl
+    by false blank = absurd (true≢false (sym stands ∙ ap (λ (s : Searched). s.stands) (sound.blank blank)))

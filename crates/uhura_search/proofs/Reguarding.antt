@@ -20,18 +20,12 @@ use Rattle.uhura_worst.specs.Edges.{item_of}
 use Rattle.uhura_worst.specs.Filled.{entry_at, PutsItem}
 use Rattle.uhura_worst.proofs.FirstItems.{slot_at}
 use Rattle.uhura_conflict.specs.Literals.{slot_of, slot_of_item}
+use Rattle.uhura_search.proofs.Shown.{slot-item}
 use Rattle.uhura_search.specs.Guards.{guard_at, HaveGuardsOf, HasSameGuard, HasOtherGuard, IsWithoutReguarded, WritesGuard}
 
 -- a guard that is written where it stands changes nothing
 pub writes-same : (guards : List (List Literal)) (table : List (Option Edge)) (slot : ℕ) (guard : List Literal) → guard_at guards slot ≡ guard → WritesGuard guards guards table table slot guard
 writes-same guards table slot guard is = record { own = is; others = λ other differs. refl; table = λ key placed. inl (λ at of_slot. refl, refl) }
-
--- the slot of an edge is that of its item
-pub slot-of-item : (key : EdgeKey) → slot_of key ≡ slot_of_item (item_of key)
-slot-of-item (Loose key) = refl
-slot-of-item (Firm key) = refl
-slot-of-item (Steep key) = refl
-slot-of-item (Order d) = refl
 
 module _ (guards : List (List Literal)) (slot : ℕ) (guard : List Literal) (inside : slot < length guards) where
   own-guard : guard_at (set guards slot guard) slot ≡ guard
@@ -64,7 +58,7 @@ module _ (guards : List (List Literal)) (slot : ℕ) (guard : List Literal) (ins
     writes-other = record {
       own = own-guard;
       others = other-guards;
-      table = λ key placed. at-item key (item_of key) (slot-of-item key) (empties key placed);
+      table = λ key placed. at-item key (item_of key) (slot-item key) (empties key placed);
     }
 
 -- A step that writes a guard at a slot that had its first guard until then.

@@ -1,9 +1,16 @@
 -- What a value is worth beside what is known of a branch.
-use Rattle.std.proofs.Common.{◌≡◌, ℕ, List, Bool, true, false, Option, inl, inr, sym, subst, ◌∙◌}
+use Rattle.std.proofs.Common.{◌≡◌, ℕ, List, Bool, true, false, Option, inl, inr, sym, subst, arith}
 use Rattle.std.specs.Prelude.{ℤ, pos, ◌<ℤ◌, int_lt, IsTrue, IsFalse}
 use Rattle.std.specs.Bool.{MatchBool}
+use Rattle.std.proofs.lemmas.Int.{ints}
 use Rattle.uhura_plan.specs.Lists.{Lists}
 use Rattle.uhura_choice.specs.declared.prefix.Pick.{Pick}
+use Rattle.uhura_net.specs.declared.place.TheConstants.{PLACES}
+use Rattle.uhura_net.specs.Circulation.{value_of}
+use Rattle.uhura_net.specs.Optimal.{loose_excess}
+use Rattle.uhura_net.specs.Net.{net_value}
+use Rattle.uhura_net.proofs.Paying.{optimal_value}
+use Rattle.uhura_flow.specs.Flow.{FlowState, flow_edges, flow_units, flow_potentials, IsFlow}
 use Rattle.uhura_veto.specs.State.{State}
 use Rattle.uhura_conflict.specs.declared.bound.Bound.{Bound}
 use Rattle.uhura_conflict.specs.declared.bound.Bound.TheVariants.{Nothing, Flow, Stuck}
@@ -13,9 +20,11 @@ use Rattle.uhura_search.specs.declared.leaf.LeafReason.TheVariants.{Empty, Learn
 use Rattle.uhura_search.specs.declared.incumbent.Incumbent.{Incumbent}
 use Rattle.uhura_search.specs.declared.learning.Learning.{Learning}
 use Rattle.uhura_search.specs.Shut.{IsDear, IsShut}
-use Rattle.uhura_search.specs.Learning.{HasAddedAt, IsBelow, IsWorthMore, IsShutByValue}
+use Rattle.uhura_search.specs.Learning.{HasAddedAt, IsBelow, IsWorthMore, IsShutByValue, IsCostValue}
 use Rattle.uhura_search.proofs.Enough.{lt-true, lt-false, dear-more}
 use Rattle.uhura_search.proofs.Reasons.{stuck-shut}
+use Rattle.uhura_search.proofs.Small.{value-most}
+use Rattle.uhura_search.proofs.Valid.{net-value}
 
 pub stuck-shut_by_value : (store : Stored) (branch : List Pick) (value : ℤ) (key : ℕ) → IsBest store branch (Stuck key) → IsShutByValue store branch value
 stuck-shut_by_value store branch value key is state best dear = stuck-shut state store best branch key is
@@ -59,3 +68,10 @@ added-shut state b c branch conflict best stuck has = record {
   reason = LearnedOf conflict;
   is_reason = record { key = has.key; applies = record { there = has.adds.there; applies = has.applies }; enough = inl stuck };
 }
+
+-- what a flow is worth leaves room for costs
+pub flow-cost_value : (flow : FlowState) → IsFlow flow → IsCostValue (net_value flow.net)
+flow-cost_value flow is =
+    let worth : value_of PLACES (flow_edges flow) (flow_units flow) ≡ pos (loose_excess PLACES (flow_edges flow) (flow_potentials flow)) =
+    optimal_value PLACES (flow_edges flow) (flow_units flow) (flow_potentials flow) is.sound.circulates is.optimal is.kept in
+    record { least = omega (arith, ints, worth, net-value flow.net); most = omega (arith, ints, value-most flow.net is.sound, net-value flow.net) }

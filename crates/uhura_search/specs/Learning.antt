@@ -1,5 +1,5 @@
 -- What is kept to learn from, for the questions of a state, and what is learned at a branch.
-use Rattle.std.specs.Prelude.{◌≡◌, ◌⊎◌, ◌<◌, ◌^◌, ◌≤◌, ℕ, ℤ, pos, ◌+ℤ◌, ◌<ℤ◌, List, Option, Some, IfSome}
+use Rattle.std.specs.Prelude.{◌≡◌, ◌⊎◌, ◌<◌, ◌^◌, ◌≤◌, ℕ, ℤ, pos, ◌+ℤ◌, ◌<ℤ◌, ◌≤ℤ◌, List, Option, Some, IfSome}
 use Rattle.uhura_plan.specs.Sound.{IsSound}
 use Rattle.uhura_plan.specs.Lists.{Lists}
 use Rattle.uhura_choice.specs.declared.prefix.Pick.{Pick}
@@ -41,12 +41,11 @@ pub record IsReady (state : State) (learning : Learning) : Type 0 where
   pub bounds : HasFlowBounds learning.table
   pub counts : AreCounts learning
 
--- what was learned is as before, and so are the places; units were pushed at most
+-- what was learned is as before; units were pushed at most
 pub record KeepsLearned (old new : Learning) : Type 0 where
   pub store : new.store ≡ old.store
   pub added : new.added ≡ old.added
   pub table : new.table ≡ old.table
-  pub places : new.places.items ≡ old.places.items
   pub pushes : old.flow.net.pushes ≤ new.flow.net.pushes
 
 -- a conflict that applies to a branch comes into the store, where it exceeds all that is known of the branch, and is
@@ -94,6 +93,11 @@ pub record IsReachedAt (state : State) (best : Incumbent) : Type 0 where
   pub allowed : Allowed state 1 proposal
   pub same : proposal.branch ≡ best.branch
   pub costs : cost state.plan 1 proposal ≡ best.cost
+
+-- a value that costs and picks leave room for
+pub record IsCostValue (value : ℤ) : Type 0 where
+  pub least : pos 0 ≤ℤ value
+  pub most : value ≤ℤ pos (2 ^ 99)
 
 -- the best so far is this branch, at what its value and its picks cost
 pub record IsAt (plan : Lists) (branch : List Pick) (value : ℤ) (best : Option Incumbent)

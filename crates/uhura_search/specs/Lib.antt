@@ -1,7 +1,9 @@
 pub mod Answer
 pub mod Appended
 pub mod Asked
+pub mod Bounds
 pub mod Closed
+pub mod Fronts
 pub mod Guards
 pub mod Held
 pub mod Known

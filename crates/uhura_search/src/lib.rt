@@ -19,7 +19,10 @@ pub mod moving;
 mod outcome;
 mod searcher;
 mod shut;
+mod solving;
+mod stepping;
 mod taking;
+mod trying;
 
 pub use leaf::{LeafNote, LeafReason};
 pub use outcome::Outcome;

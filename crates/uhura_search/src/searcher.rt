@@ -3,6 +3,7 @@ ghost use Rattle.std.specs.Prelude.{◌≡◌, Some, IsTrue, IsFalse, IfOk};
 ghost use Rattle.uhura_veto.specs.State.{State};
 ghost use Rattle.uhura_search.specs.Answer.{IsAnswerTo};
 ghost use Rattle.uhura_search.specs.Asked.{IsLeftSolved};
+ghost use Rattle.uhura_search.specs.Bounds.{IsDual, AllBound};
 ghost use Rattle.uhura_search.specs.Held.{HasBegun};
 ghost use Rattle.uhura_search.specs.Revised.{IsRevised};
 ghost use Rattle.uhura_search.specs.Searcher.{empty_searcher, said, IsSearcher, IsFilledFor, IsAsked, StandsFor, Asks, IsAskedOnce};
@@ -37,7 +38,8 @@ impl Model for Searcher {
 
     ghost Value = { Searched };
 
-    ghost use Rattle.uhura_search.specs.Held.{shown_as, IsHeldSearcher};
+    ghost use Rattle.uhura_search.specs.Bounds.{IsDual, AllBound};
+ghost use Rattle.uhura_search.specs.Held.{shown_as, IsHeldSearcher};
 
     ghost view = { λ s. shown_as s.learning s.guards.items s.answer s.stands s.filled };
 
@@ -87,7 +89,11 @@ impl Searcher {
             IfOk result (IsLeftSolved self.new.net state) }
         ensures stands_for { StandsFor self.new (record { plan = plan.now; vetoes = vetoes.now }) }
         ensures asked { IsAskedOnce self.old self.new plan.now result }
+        ensures duality { IsDual (record { plan = plan.now; vetoes = vetoes.now }) }
+        ensures bounds { AllBound (record { plan = plan.now; vetoes = vetoes.now }) self.new.store }
     {
+        // By its type the plan is sound.
+        let _ = plan.choices();
         if self.stands {
             return self.again(plan, vetoes);
         }

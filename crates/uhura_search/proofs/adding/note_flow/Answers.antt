@@ -16,7 +16,7 @@ pub returns-clause-learns : goal.returns-clause-learns
 returns-clause-learns c =
     let old = c.args.learning.now in
     let read : Learning = record old { flow = c.reading.new.self } in
-    let keeps : KeepsLearned old read = record { store = refl; added = refl; table = refl; places = refl; pushes = omega (arith, ap (λ net. net.pushes) c.reading.ensures.net) } in
+    let keeps : KeepsLearned old read = record { store = refl; added = refl; table = refl; pushes = omega (arith, ap (λ net. net.pushes) c.reading.ensures.net) } in
     on_ok_weaker c.add_flow.result
     (λ has. learns-one c.args.plan.now old read c.add_flow.new.learning c.args.branch.now has.0 c.requires.is_branch keeps c.reading.ensures.settles has.3)
     c.add_flow.ensures.ok
@@ -26,7 +26,7 @@ returns-clause-stops c =
     let old = c.args.learning.now in
     let read : Learning = record old { flow = c.reading.new.self } in
     let new = c.add_flow.new.learning in
-    let keeps : KeepsLearned old read = record { store = refl; added = refl; table = refl; places = refl; pushes = omega (arith, ap (λ net. net.pushes) c.reading.ensures.net) } in
+    let keeps : KeepsLearned old read = record { store = refl; added = refl; table = refl; pushes = omega (arith, ap (λ net. net.pushes) c.reading.ensures.net) } in
     either c.add_flow.result c.add_flow.ensures.ok c.add_flow.ensures.err
     (λ has. some-or_stops c.args.plan.now.choices old new (learns-one c.args.plan.now old read new c.args.branch.now has.0 c.requires.is_branch keeps c.reading.ensures.settles has.3))
     (λ same. subst (λ (l : Learning). LearnsOrStops c.args.plan.now.choices old l) (sym same) (stops-settled c.args.plan.now.choices old read c.requires.counts keeps c.reading.ensures.settles))
@@ -47,8 +47,8 @@ returns-clause-ready c vetoes ready =
     let old = c.args.learning.now in
     let read : Learning = record old { flow = c.reading.new.self } in
     let new = c.add_flow.new.learning in
-    let keeps : KeepsLearned old read = record { store = refl; added = refl; table = refl; places = refl; pushes = omega (arith, ap (λ net. net.pushes) c.reading.ensures.net) } in
-    let has_read : IsReady state read = ready-kept state old read ready keeps (λ place edge is. ready.kept.present place edge (ap (λ net. edges_of net.edges place) (sym c.reading.ensures.net) ∙ is))
+    let keeps : KeepsLearned old read = record { store = refl; added = refl; table = refl; pushes = omega (arith, ap (λ net. net.pushes) c.reading.ensures.net) } in
+    let has_read : IsReady state read = ready-kept state old read ready keeps refl (λ place edge is. ready.kept.present place edge (ap (λ net. edges_of net.edges place) (sym c.reading.ensures.net) ∙ is))
     (subst (λ (n : ℕ). n < 2 ^ 64) (sym c.reading.ensures.settles) (raised-small 1 old.flow.settles)) in
     either c.add_flow.result c.add_flow.ensures.ok c.add_flow.ensures.err
     (λ has. ready-added state read new c.args.branch.now has.0 has_read has.3)

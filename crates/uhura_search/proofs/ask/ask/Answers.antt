@@ -1,13 +1,15 @@
-use Rattle.std.proofs.Common.{◌≡◌, ℕ, ◌+◌, ◌<◌, ◌≤◌, ◌^◌, [], inl, refl, sym, ap, subst, arith, rules}
-use Rattle.std.specs.Prelude.{◌-◌, min}
-use Rattle.uhura_search.specs.Asked.{raised}
+use Rattle.std.proofs.Common.{ap, arith}
+use Rattle.uhura_search.specs.Learning.{KeepsLearned}
+use Rattle.uhura_search.proofs.Learns.{learns-none, some-both, some-stops}
 use Rattle.uhura_search.proofs.ask.ask.Goals as goal
 
-raised-none : (n : ℕ) → n < 2 ^ 64 → n ≡ raised 0 n
-raised-none n small = grind arith
-
-pub returns-clause-asked : goal.returns-clause-asked
-returns-clause-asked c = record {
-  learned = [];
-  has_learned = inl (record { adds = refl; added = raised-none c.args.learning.now.added (search rules); settles = raised-none c.args.learning.now.flow.settles (omega arith); pushes = omega arith; table = refl });
-}
+pub returns-in-Some-clause-asked : goal.returns-in-Some-clause-asked
+returns-in-Some-clause-asked c =
+    let choices = c.args.plan.now.choices in
+    let old = c.args.learning.now in
+    let made = c.make_ready.new.learning in
+    let closed = c.close_all.new.learning in
+    let ready = c.make_ready.ensures in
+    let keeps : KeepsLearned old made = record { store = ready.store; added = ready.added; table = ready.table; pushes = omega (arith, ap (λ flow. flow.net.pushes) ready.flow) } in
+    some-stops choices old closed c.found.new.learning (some-both choices old made closed (learns-none choices old made ready.counts keeps (ap (λ flow. flow.settles) ready.flow)) c.in_ok-best.ensures.learns)
+    c.found.ensures.asked
