@@ -17,3 +17,5 @@ mod loosenings;
 mod nets;
 #[cfg(test)]
 mod searches;
+#[cfg(test)]
+mod sessions;
