@@ -1,0 +1,8 @@
+//! The answer to `prove`: a document that shows an answer (`specs/Proof.antt`). What was learned of branches becomes
+//! shared entries, each written once (`specs/Entries.antt`), and the leaves use them (`specs/Made.antt`). `laws` says
+//! that what is written is read as a confirmed document.
+#![tactic(auto)]
+
+mod entries;
+mod entry;
+mod order;
