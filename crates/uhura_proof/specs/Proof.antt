@@ -55,10 +55,10 @@ pub record AreUsedInOrder (entries : List Shared) (leaves : List Leaf) : Type 0 
       first_use leaves one < first_use leaves other
 
 -- a confirmed document of this state and this answer, whose entries are in order
-pub record IsProofOf (state : State) (answer : Option Stated) (d : Document) : Type 0 where
+pub record IsProofOf (asked : State) (stated : Option Stated) (d : Document) : Type 0 where
   pub version : d.version ≡ 2
-  pub state : d.state ≡ state
-  pub answer : d.answer ≡ answer
+  pub state : d.state ≡ asked
+  pub answer : d.answer ≡ stated
   pub confirmed : Confirmed d
   pub entries : AreUsedInOrder d.shared d.leaves
 

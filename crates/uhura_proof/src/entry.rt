@@ -3,6 +3,7 @@ ghost use Rattle.std.specs.Prelude.{◌≡◌, ◌<◌, All, map, IfOk};
 ghost use Rattle.std.specs.List.Sorted.{IsPermutation};
 ghost use Rattle.uhura_net.specs.declared.place.TheConstants.{PLACES};
 ghost use Rattle.uhura_dual.specs.Settled.{key_at};
+ghost use Rattle.uhura_conflict.specs.Learned.{places_in};
 ghost use Rattle.uhura_proof.specs.Entries.{place_by, keyed, AreInOrder, IsEntryFor};
 
 use crate::order::edge_place;
@@ -32,11 +33,12 @@ pub(crate) fn entry_of(
 /// The edges at these places, in their order.
 fn walk_edges(alloc: Global, pairs: &[(Place, u64)]) -> Result<Vec<EdgeKey>, AllocError>
     requires { All (λ pair. pair.0.0 < PLACES) pairs.now }
-    ensures { IfOk result (λ edges. edges.items ≡ map (λ pair. key_at pair.0.0) pairs.now) }
+    ensures { IfOk result (λ edges.
+        edges.items ≡ map (λ place. key_at place.0) (places_in pairs.now)) }
 {
     let mut edges = Vec::new(alloc);
     for (place, _) in pairs {
-        edges.push(key_of(*place))?;
+        edges.push(key_at(*place))?;
     }
     Ok(edges)
 }
@@ -63,7 +65,15 @@ fn keyed(alloc: Global, pairs: &[(Place, u64)]) -> Result<Vec<(EdgeKey, u64)>, A
 {
     let mut edges = Vec::new(alloc);
     for (place, units) in pairs {
-        edges.push((key_of(*place), *units))?;
+        edges.push((key_at(*place), *units))?;
     }
     Ok(edges)
+}
+
+/// The edge at a place.
+fn key_at(place: Place) -> EdgeKey
+    requires { place.0 < PLACES }
+    ensures { result ≡ key_at place.0 }
+{
+    key_of(place)
 }
