@@ -18,8 +18,10 @@ pub(crate) fn put_entry(
     entry: Shared,
 ) -> Result<u32, AllocError>
     requires placed { HasPlaces entry }
-    requires contents { AreContents contents.old.keys entries.old.items }
-    ensures contents { IfOk result (λ _. AreContents contents.new.keys entries.new.items) }
+    requires contents { AreContents (map (λ content. content.items) contents.old.keys)
+        entries.old.items }
+    ensures contents { IfOk result (λ _.
+        AreContents (map (λ content. content.items) contents.new.keys) entries.new.items) }
     ensures put { IfOk result (λ place. IsPut entries.old.items entry place entries.new.items) }
 {
     let content = content_of(alloc, &entry)?;
