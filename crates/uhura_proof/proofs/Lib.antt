@@ -1,3 +1,4 @@
 pub mod Places
 pub mod EntryMade
 pub mod Contents
+pub mod Reordered
