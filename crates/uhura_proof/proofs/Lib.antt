@@ -2,3 +2,5 @@ pub mod Places
 pub mod EntryMade
 pub mod Contents
 pub mod Reordered
+pub mod Fits
+pub mod Making

@@ -52,7 +52,7 @@ places-more plan i own old new distinct inside is before writes = record {
     other : (slot : ℕ) → slot ≢ own.slot → place_by new slot ≡ place_by old slot
     other slot differs = ap (λ (xs : List ℕ). place_by xs slot) writes ∙ get_or-set_other old own.slot slot i 0 differs
 
-position_is : (rs : List Requirement) (slot : ℕ) → position_or_len (λ r. r.slot == slot) rs ≡ numbers.place_in slot rs
+pub position_is : (rs : List Requirement) (slot : ℕ) → position_or_len (λ r. r.slot == slot) rs ≡ numbers.place_in slot rs
 position_is [] slot = refl
 position_is (r ∷ rs) slot = by (r.slot == slot) refl (position_is rs slot)
   where

@@ -1,3 +1,4 @@
 pub mod Proof
-pub mod Entries
 pub mod Made
+pub mod Entries
+pub mod Using

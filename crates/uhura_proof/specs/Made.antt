@@ -2,6 +2,7 @@
 use Rattle.std.specs.Prelude.{◌≡◌, ◌≢◌, ℕ, ◌<◌, List, map, length, All, AllPairs, IsSome}
 use Rattle.std.specs.List.{AllZip}
 use Rattle.std.specs.List.Sorted.{IsPermutation}
+use Rattle.uhura_choice.specs.Branch.{IsPrefix}
 use Rattle.uhura_veto.specs.State.{State}
 use Rattle.uhura_worst.specs.Edges.{edge_of}
 use Rattle.uhura_shows.specs.Leaf.{LeafReason, Denied, Flow, Stuck, LeafShown}
@@ -31,10 +32,19 @@ IsThere state (Denied veto) = veto < length state.vetoes
 IsThere state (Stuck keys) = All (λ key. IsSome (edge_of state key)) keys
 IsThere state (Flow pairs) = All (IsCarried state) pairs × AllPairs (λ a b. a.0 ≢ b.0) pairs
 
--- the leaves show the same, and fit the state with these entries, which are in order
+-- the prefix is one of the plan, and its reason is there
+pub record CanBeLeaf (state : State) (shown : LeafShown) : Type 0 where
+  pub prefix : IsPrefix state.plan.choices shown.prefix
+  pub reason : IsThere state shown.reason
+
+-- the entries speak of edges of the plan
+abbrev pub AreOfPlan : State → List Shared → Type 0
+AreOfPlan state entries = All (IsShared (place_in state.plan) state.plan) entries
+
+-- the leaves show the same, and fit the state with these entries, which are used in order
 pub record AreMade (state : State) (shown : List LeafShown) (entries : List Shared)
     (leaves : List Leaf) : Type 0 where
   pub same : AllZip IsSameLeaf shown (map (leaf_of entries) leaves)
   pub fits : All (IsLeaf (place_in state.plan) 2 state (length entries)) leaves
-  pub shared : All (IsShared (place_in state.plan) state.plan) entries
+  pub of_plan : AreOfPlan state entries
   pub used : AreUsedInOrder entries leaves

@@ -5,4 +5,5 @@
 
 mod entries;
 mod entry;
+mod leaves;
 mod order;
