@@ -51,14 +51,14 @@ module _ (state : State) (places : List ℕ) (sound : IsSound state.plan) (are :
   -- the use of an entry that shows a reason
   made_use : (shown : LeafReason) (entry : Shared) (why : Reason) → IsThere state shown → IsSameReason shown (entry_reason entry) → HasUnitsInOrder (place_by places) entry → IsUseOf old entry new why →
       IsReasonMade state shown old new why
-  made_use shown entry (reason.Denied veto) there same in_order use = absurd use
-  made_use shown entry (reason.Flow edges) there same in_order use = absurd use
-  made_use shown entry (reason.Stuck edges) there same in_order use = absurd use
-  made_use shown entry (reason.Entry place) there same in_order use = record {
-    same = subst (λ (o : Option Shared). IsSameReason shown (option_map_or entry_reason o (shows.Stuck []))) (sym (put_at old new entry place use.put)) same;
-    fits = use.small;
-    entries = (entry, use.put);
-    of_plan = λ before. elim use.put [
+  made_use shown entry (reason.Denied veto) there same in_order uses = absurd uses
+  made_use shown entry (reason.Flow edges) there same in_order uses = absurd uses
+  made_use shown entry (reason.Stuck edges) there same in_order uses = absurd uses
+  made_use shown entry (reason.Entry place) there same in_order uses = record {
+    same = subst (λ (o : Option Shared). IsSameReason shown (option_map_or entry_reason o (shows.Stuck []))) (sym (put_at old new entry place uses.put)) same;
+    fits = uses.small;
+    entries = (entry, uses.put);
+    of_plan = λ before. elim uses.put [
       | inl there_already ↦ subst (AreOfPlan state) (sym there_already.same) before
       | inr added ↦
           subst (AreOfPlan state) (sym added.more)
@@ -67,17 +67,17 @@ module _ (state : State) (places : List ℕ) (sound : IsSound state.plan) (are :
   }
 
   pub made_empty : (of : found.LeafReason) (edges : List _) (why : Reason) → of ≡ Empty → edges ≡ [] → IsThere state (shown_reason state of) → IsUseOf old (Flow edges) new why → IsReasonMade state (shown_reason state of) old new why
-  made_empty of edges why is none there use =
+  made_empty of edges why is none there uses =
       made_use (shown_reason state of) (Flow edges) why there
       (subst (λ (o : found.LeafReason). IsSameReason (shown_reason state o) (shows.Flow edges)) (sym is) (subst (λ es. IsSameReason (shows.Flow []) (shows.Flow es)) (sym none) (IsPermutation-refl [])))
       (subst (λ es. HasUnitsInOrder (place_by places) (Flow es)) (sym none) (All-nil (λ e. 1 ≤ e.1), λ i j d before below. absurd (omega (arith, below))))
-      use
+      uses
 
   pub made_learned : (of : found.LeafReason) (conflict : Learned) (entry : Shared) (why : Reason) → of ≡ LearnedOf conflict → IsEntryFor (place_by places) conflict entry → IsThere state (shown_reason state of) →
       IsUseOf old entry new why → IsReasonMade state (shown_reason state of) old new why
-  made_learned of conflict entry why is made there use =
+  made_learned of conflict entry why is made there uses =
       made_use (shown_reason state of) entry why there
-      (subst (λ (o : found.LeafReason). IsSameReason (shown_reason state o) (entry_reason entry)) (sym is) made.same) made.in_order use
+      (subst (λ (o : found.LeafReason). IsSameReason (shown_reason state o) (entry_reason entry)) (sym is) made.same) made.in_order uses
 
 -- ---- prefixes
 
