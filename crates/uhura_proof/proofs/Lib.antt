@@ -4,3 +4,4 @@ pub mod Contents
 pub mod Reordered
 pub mod Fits
 pub mod Making
+pub mod Shown

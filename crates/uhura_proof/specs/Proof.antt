@@ -1,5 +1,5 @@
 -- A proof of an answer: a confirmed document of version 2 whose entries are all used, each once written.
-use Rattle.std.specs.Prelude.{◌≡◌, ◌≢◌, ℕ, ◌<◌, ◌==◌, Bool, false, List, length, AllPairs, Option, IfSome, option_map}
+use Rattle.std.specs.Prelude.{◌≡◌, ◌≢◌, ℕ, ◌<◌, ◌==◌, Bool, false, List, ◌++◌, length, AllPairs, Option, IfSome, option_map}
 use Rattle.std.specs.List.{position_or_len}
 use Rattle.uhura_veto.specs.State.{State}
 use Rattle.uhura_worst.specs.Allowed.{Allowed}
@@ -68,3 +68,9 @@ pub record IsProof (state : State) (answer : Option Stated) (text : List ℕ) : 
   pub fits : IsDocument document
   pub proves : IsProofOf state answer document
   pub is_text : text ≡ text_of document
+
+-- such a text is appended
+pub record AppendsProof (state : State) (answer : Option Stated) (old new : List ℕ) : Type 0 where
+  pub proof : List ℕ
+  pub is_proof : IsProof state answer proof
+  pub appended : new ≡ old ++ proof

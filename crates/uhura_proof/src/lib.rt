@@ -3,7 +3,12 @@
 //! that what is written is read as a confirmed document.
 #![tactic(auto)]
 
+mod document;
 mod entries;
 mod entry;
 mod leaves;
 mod order;
+mod proof;
+
+pub use document::document_of;
+pub use proof::put_proof;

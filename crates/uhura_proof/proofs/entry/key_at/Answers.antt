@@ -1,4 +1,3 @@
-use Rattle.uhura_proof.proofs.Fits.{entry_fits}
 use Rattle.std.proofs.Common.{sym}
 use Rattle.uhura_search.proofs.FlowBounds.{key-there}
 use Rattle.uhura_proof.proofs.entry.key_at.Goals as goal

@@ -12,8 +12,9 @@ use Rattle.uhura_proof.proofs.leaves.leaves_of.Goals as goal
 pub leaf_of-requires-clause-can_be : goal.leaf_of-requires-clause-can_be
 leaf_of-requires-clause-can_be c =
     let state = c.args.state.now in
-    let is = c.note-item.is in
-    ?
+    let note = c.note-item.result in
+    let each = All-from_map (CanBeLeaf state) (shown_leaf state) c.args.notes.now c.requires.can_be in
+    subst (λ (n : LeafNote). CanBeLeaf state (shown_leaf state n)) (sym c.note-item.is) (each c.loop-note.note-index note c.loop-note-test.true)
 
 pub loop-note-preserved : goal.loop-note-preserved
 loop-note-preserved c =
@@ -22,7 +23,7 @@ loop-note-preserved c =
     let i = c.loop-note.note-index in
     let note = c.note-item.result in
     let shown : shown_leaves state (take (i + 1) notes) ≡ shown_leaves state (take i notes) ++ shown_leaf state note ∷ [] =
-    ap (shown_leaves state) (take_more notes i note c.loop-note-test.true ∙ ap (λ n. take i notes ++ n ∷ []) ?) ∙ map-append (shown_leaf state) (take i notes) (note ∷ []) in
+    ap (shown_leaves state) (take_more notes i note c.loop-note-test.true ∙ ap (λ n. take i notes ++ n ∷ []) (sym c.note-item.is)) ∙ map-append (shown_leaf state) (take i notes) (note ∷ []) in
     record {
       contents = c.in_ok-leaf_of.ensures.contents;
       made =
