@@ -5,3 +5,4 @@ pub mod Reordered
 pub mod Fits
 pub mod Making
 pub mod Shown
+pub mod Proved
