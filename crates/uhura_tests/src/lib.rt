@@ -6,6 +6,8 @@
 #![tactic(auto)]
 
 #[cfg(test)]
+mod documents;
+#[cfg(test)]
 mod generated;
 #[cfg(test)]
 mod loosenings;
