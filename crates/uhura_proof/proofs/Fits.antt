@@ -207,7 +207,7 @@ place_inside plan slot there =
     let p = placed plan.requirements slot there in
     omega (arith, position_is plan.requirements slot, slice_get_within plan.requirements (numbers.place_in slot plan.requirements) p.requirement p.at)
 
-same_slot : (plan : Lists) (one other : ℕ) → IsSome (requirement_in plan one) → IsSome (requirement_in plan other) → place_in plan one ≡ place_in plan other → one ≡ other
+pub same_slot : (plan : Lists) (one other : ℕ) → IsSome (requirement_in plan one) → IsSome (requirement_in plan other) → place_in plan one ≡ place_in plan other → one ≡ other
 same_slot plan one other here there same =
     let p = placed plan.requirements one here in
     let q = placed plan.requirements other there in
@@ -223,7 +223,7 @@ same_item plan (item.Requirement one) (item.Uncertain other) few here there same
 same_item plan (item.Uncertain one) (item.Requirement other) few here there same = absurd (omega (arith, few, same, place_inside plan other there))
 same_item plan (item.Uncertain one) (item.Uncertain other) few here there same = let equal : one ≡ other = omega (arith, same) in ap (λ d. item.Uncertain d) equal
 
-same_edge : (plan : Lists) (one other : EdgeKey) → length plan.requirements ≤ REQUIREMENTS → IsEdgeOf plan one → IsEdgeOf plan other → edge_place (place_in plan) one ≡ edge_place (place_in plan) other → one ≡ other
+pub same_edge : (plan : Lists) (one other : EdgeKey) → length plan.requirements ≤ REQUIREMENTS → IsEdgeOf plan one → IsEdgeOf plan other → edge_place (place_in plan) one ≡ edge_place (place_in plan) other → one ≡ other
 same_edge plan one other few here there same =
     let all : 7 * item_place (place_in plan) (item_of one) + row one ≡ 7 * item_place (place_in plan) (item_of other) + row other = sym (place_is (place_in plan) one) ∙ same ∙ place_is (place_in plan) other in
     let rows : row one ≡ row other = omega (arith, all, row_small one, row_small other) in

@@ -6,3 +6,5 @@ pub mod Fits
 pub mod Making
 pub mod Shown
 pub mod Proved
+pub mod SameVetoes
+pub mod Twins

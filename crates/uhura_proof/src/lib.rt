@@ -6,6 +6,7 @@
 mod document;
 mod entries;
 mod entry;
+pub mod laws;
 mod leaves;
 mod order;
 mod proof;

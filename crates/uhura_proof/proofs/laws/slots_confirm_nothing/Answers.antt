@@ -1,0 +1,2 @@
+use Rattle.uhura_proof.proofs.Twins.{twin_edge}
+use Rattle.uhura_proof.proofs.laws.slots_confirm_nothing.Goals as goal
