@@ -58,14 +58,14 @@ module _ (a b : State) (sound_a : IsSoundState a) (sound_b : IsSoundState b) (sa
     pub place : ℕ
     pub here : slice_get a.plan.requirements place ≡ Some r
     pub there : slice_get b.plan.requirements place ≡ Some s
-    pub same : in_slot 0 r ≡ in_slot 0 s
+    pub slotless : in_slot 0 r ≡ in_slot 0 s
 
   pub twins_at : (place : ℕ) (r s : Requirement) → slice_get a.plan.requirements place ≡ Some r → slice_get b.plan.requirements place ≡ Some s → AreTwins r s
   twins_at place r s here there = record {
     place = place;
     here = here;
     there = there;
-    same = same_Some (in_slot 0 r) (in_slot 0 s)
+    slotless = same_Some (in_slot 0 r) (in_slot 0 s)
         (ap (option_map (in_slot 0)) (sym here) ∙ sym (slice_get-map (in_slot 0) a.plan.requirements place)
         ∙ ap (λ (rs : List Requirement). slice_get rs place) same.requirements
         ∙ slice_get-map (in_slot 0) b.plan.requirements place ∙ ap (option_map (in_slot 0)) there);
@@ -94,10 +94,10 @@ module _ (a b : State) (sound_a : IsSoundState a) (sound_b : IsSoundState b) (sa
 
   module _ (r s : Requirement) (twins : AreTwins r s) (side : Side) where
     constraints : requirement_constraint side r ≡ requirement_constraint side s
-    constraints = sym (constraint_slotless side r) ∙ ap (requirement_constraint side) twins.same ∙ constraint_slotless side s
+    constraints = sym (constraint_slotless side r) ∙ ap (requirement_constraint side) twins.slotless ∙ constraint_slotless side s
 
     bounds : bounded_of side r ≡ bounded_of side s
-    bounds = sym (bounded_slotless side r) ∙ ap (bounded_of side) twins.same ∙ bounded_slotless side s
+    bounds = sym (bounded_slotless side r) ∙ ap (bounded_of side) twins.slotless ∙ bounded_slotless side s
 
     pub rates_twin : loosening_rate side r ≡ loosening_rate side s
     rates_twin = ap (λ x. option_map (λ price. record { first = price.rate; second = price.second }) x.price) bounds
@@ -108,7 +108,7 @@ module _ (a b : State) (sound_a : IsSoundState a) (sound_b : IsSoundState b) (sa
         λ i. room_to_loosen (bounds i).bound (bounds i).price (caps i)
 
   guards : (r s : Requirement) → AreTwins r s → r.guard ≡ s.guard
-  guards r s twins = ap (λ q. q.guard) twins.same
+  guards r s twins = ap (λ q. q.guard) twins.slotless
 
   -- ---- edges
 
@@ -162,7 +162,7 @@ module _ (a b : State) (sound_a : IsSoundState a) (sound_b : IsSoundState b) (sa
   pub record AreTwinEdges (one other : EdgeKey) : Type 0 where
     pub here : IsEdgeOf a.plan one
     pub there : IsEdgeOf b.plan other
-    pub same : placed_edge a.plan one ≡ placed_edge b.plan other
+    pub at : placed_edge a.plan one ≡ placed_edge b.plan other
 
   module _ (side : Side) where
     loose_sides : (i j : Item) → IsItemOf a.plan i → IsItemOf b.plan j → placed_thing a.plan i ≡ placed_thing b.plan j → edge_in a (Loose (record { item = i; side = side })) i ≡ edge_in b (Loose (record { item = j; side = side })) j
@@ -223,7 +223,7 @@ module _ (a b : State) (sound_a : IsSoundState a) (sound_b : IsSoundState b) (sa
 
   -- a twin is the same edge
   pub twin_edge : (one other : EdgeKey) → AreTwinEdges one other → edge_of a one ≡ edge_of b other
-  twin_edge one other twins = edges_twin one other twins.here twins.there twins.same
+  twin_edge one other twins = edges_twin one other twins.here twins.there twins.at
 
   -- it is loose where the other is
   loose_placed : (plan : Lists) (key : EdgeKey) → is_loose_key (placed_edge plan key) ≡ is_loose_key key
@@ -233,7 +233,7 @@ module _ (a b : State) (sound_a : IsSoundState a) (sound_b : IsSoundState b) (sa
   loose_placed plan (Order d) = refl
 
   pub twin_loose : (one other : EdgeKey) → AreTwinEdges one other → is_loose_key one ≡ is_loose_key other
-  twin_loose one other twins = sym (loose_placed a.plan one) ∙ ap is_loose_key twins.same ∙ loose_placed b.plan other
+  twin_loose one other twins = sym (loose_placed a.plan one) ∙ ap is_loose_key twins.at ∙ loose_placed b.plan other
 
   -- and active where the other is
   item_placed : (plan : Lists) (key : EdgeKey) → item_of (placed_edge plan key) ≡ placed_thing plan (item_of key)
@@ -262,7 +262,7 @@ module _ (a b : State) (sound_a : IsSoundState a) (sound_b : IsSoundState b) (sa
   pub twin_active : (picks : List Pick) (one other : EdgeKey) → AreTwinEdges one other → is_active_edge a.plan picks one ≡ is_active_edge b.plan picks other
   twin_active picks one other twins =
       active_items picks (item_of one) (item_of other) (item_there a.plan one twins.here) (item_there b.plan other twins.there)
-      (sym (item_placed a.plan one) ∙ ap item_of twins.same ∙ item_placed b.plan other)
+      (sym (item_placed a.plan one) ∙ ap item_of twins.at ∙ item_placed b.plan other)
 
   -- an edge has one twin
   place_placed : (plan : Lists) (key : EdgeKey) → edge_place (place_in plan) key ≡ edge_place (λ slot. slot) (placed_edge plan key)
@@ -286,4 +286,4 @@ module _ (a b : State) (sound_a : IsSoundState a) (sound_b : IsSoundState b) (sa
   pub one_twin : (one two other : EdgeKey) → AreTwinEdges one other → AreTwinEdges two other → one ≡ two
   one_twin one two other first second =
       same_edge a.plan one two sound_a.plan.counts.requirements first.here second.here
-      (place_placed a.plan one ∙ ap (edge_place (λ slot. slot)) (first.same ∙ sym second.same) ∙ sym (place_placed a.plan two))
+      (place_placed a.plan one ∙ ap (edge_place (λ slot. slot)) (first.at ∙ sym second.at) ∙ sym (place_placed a.plan two))
