@@ -8,3 +8,5 @@ pub mod Shown
 pub mod Proved
 pub mod SameVetoes
 pub mod Twins
+pub mod TwinLeaves
+pub mod TwinDocuments

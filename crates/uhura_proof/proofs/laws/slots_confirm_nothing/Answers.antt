@@ -1,2 +1,3 @@
-use Rattle.uhura_proof.proofs.Twins.{twin_edge}
+use Rattle.uhura_proof.proofs.TwinLeaves.{shows_twin}
+use Rattle.uhura_proof.proofs.TwinDocuments.{leaves_twin}
 use Rattle.uhura_proof.proofs.laws.slots_confirm_nothing.Goals as goal
