@@ -10,3 +10,4 @@ pub mod SameVetoes
 pub mod Twins
 pub mod TwinLeaves
 pub mod TwinDocuments
+pub mod TwinProposals
