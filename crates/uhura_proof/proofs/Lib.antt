@@ -11,3 +11,4 @@ pub mod Twins
 pub mod TwinLeaves
 pub mod TwinDocuments
 pub mod TwinProposals
+pub mod SlotsConfirm

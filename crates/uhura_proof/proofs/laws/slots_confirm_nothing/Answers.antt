@@ -1,4 +1,5 @@
-use Rattle.uhura_proof.proofs.TwinLeaves.{shows_twin}
-use Rattle.uhura_proof.proofs.TwinDocuments.{leaves_twin}
-use Rattle.uhura_proof.proofs.TwinProposals.{stated_twin}
+use Rattle.uhura_proof.proofs.SlotsConfirm.{confirmed_same}
 use Rattle.uhura_proof.proofs.laws.slots_confirm_nothing.Goals as goal
+
+pub returns : goal.returns
+returns c = confirmed_same
