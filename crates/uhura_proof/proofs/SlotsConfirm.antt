@@ -3,6 +3,8 @@ use Rattle.std.proofs.Common.{◌≡◌, ℕ, List, Option, Some, None, Result, 
 use Rattle.std.specs.Prelude.{option_map, length}
 use Rattle.std.proofs.lemmas.Option.{same_Some}
 use Rattle.uhura_text.specs.Lines.{lines}
+use Rattle.uhura_plan.specs.Lists.{Lists}
+use Rattle.uhura_choice.specs.declared.prefix.Pick.{Pick}
 use Rattle.uhura_shows.specs.Shows.{Answer, Shows}
 use Rattle.uhura_cert.specs.declared.document.Proposal.{Proposal as Stated}
 use Rattle.uhura_cert.specs.declared.document.DocumentRefusal.{DocumentRefusal}
@@ -18,6 +20,10 @@ use Rattle.uhura_proof.specs.Read.{SlotsConfirmNothing, ReadsConfirmed, ProofsAr
 use Rattle.uhura_proof.proofs.TwinLeaves.{shows_twin}
 use Rattle.uhura_proof.proofs.TwinDocuments.{leaves_twin}
 use Rattle.uhura_proof.proofs.TwinProposals.{stated_twin}
+
+-- the branch and the cost that a proposal states
+abbrev branch_stated : Lists → Stated → List Pick × ℕ
+branch_stated plan p = ((proposal_of plan p).branch, p.cost)
 
 -- the same turned round
 turned : (d e : Document) → IsSameUpToSlots d e → IsSameUpToSlots e d
@@ -38,7 +44,7 @@ turned d e same = record {
 module _ (d e : Document) (is_d : IsDocument d) (is_e : IsDocument e) (same : IsSameUpToSlots d e) where
   -- the same branch with the same cost is stated
   answer_same : (x y : Option Stated) → option_map (placed_proposal d.state.plan) x ≡ option_map (placed_proposal e.state.plan) y →
-      option_map (λ p. ((proposal_of d.state.plan p).branch, p.cost)) x ≡ option_map (λ q. ((proposal_of e.state.plan q).branch, q.cost)) y
+      option_map (branch_stated d.state.plan) x ≡ option_map (branch_stated e.state.plan) y
   answer_same None None at = refl
   answer_same None (Some q) at = let no : ⊥ = cc in absurd no
   answer_same (Some p) None at = let no : ⊥ = cc in absurd no

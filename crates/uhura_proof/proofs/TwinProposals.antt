@@ -12,7 +12,7 @@ use Rattle.uhura_plan.specs.declared.key.Side.TheVariants.{Lower, Upper}
 use Rattle.uhura_plan.specs.declared.key.Item.{Item}
 use Rattle.uhura_plan.specs.declared.key.Item.TheVariants as item
 use Rattle.uhura_plan.specs.declared.key.SideKey.{SideKey}
-use Rattle.uhura_plan.specs.declared.bounded.Bounded.{Bounded}
+use Rattle.uhura_plan.specs.declared.requirement.Bounded.{Bounded}
 use Rattle.uhura_plan.specs.declared.choice.Choice.{Choice}
 use Rattle.uhura_plan.specs.declared.requirement.Requirement.{Requirement}
 use Rattle.uhura_plan.specs.declared.uncertain.Uncertain.{Uncertain}
@@ -246,18 +246,27 @@ module _ (a b : State) (sound_a : IsSoundState a) (sound_b : IsSoundState b) (sa
     pub allowed : Allowed a 1 (proposal_of a.plan p) → Allowed b 1 (proposal_of b.plan q)
     pub cost : cost a.plan 1 (proposal_of a.plan p) ≡ cost b.plan 1 (proposal_of b.plan q)
 
-  pub stated_twin : (p q : Stated) → IsProposal a.plan p → IsProposal b.plan q → placed_proposal a.plan p ≡ placed_proposal b.plan q → AreWorthTheSame p q
-  stated_twin p q fits_p fits_q at =
-      let x : Proposal = proposal_of a.plan p in
-      let v : SideKey → ℕ = side_units q.loosening in
-      let sides : map (placed_relaxed a.plan) p.loosening ≡ map (placed_relaxed b.plan) q.loosening = ap (λ (z : Stated). z.loosening) at in
-      let picks : p.picks ≡ q.picks = ap (λ (z : Stated). z.picks) at in
-      let times : p.times ≡ q.times = ap (λ (z : Stated). z.times) at in
-      let loosens = λ side r s twins. units_twin side (item.Requirement r.slot) (item.Requirement s.slot) (twin_items r s twins) p.loosening q.loosening fits_p.sides.among fits_q.sides.among sides in
-      let narrows = λ side d inside. units_twin side (item.Uncertain d) (item.Uncertain d)
-      (record { here = inside; there = omega (arith, inside, ap (λ (us : List Uncertain). length us) same.uncertains); at = refl }) p.loosening q.loosening fits_p.sides.among fits_q.sides.among sides in
-      let is : y x v loosens narrows ≡ proposal_of b.plan q = λ i. record { branch = picks_of (picks i) (length (same.choices i)); units = v; times = scheduled_time (times i) } in
-      record {
-        allowed = λ allowed. subst (Allowed b 1) is (allowed_same x v loosens narrows 1 allowed);
-        cost = cost_same x v loosens narrows 1 ∙ ap (cost b.plan 1) is;
-      }
+  module _ (p q : Stated) (fits_p : IsProposal a.plan p) (fits_q : IsProposal b.plan q) (at : placed_proposal a.plan p ≡ placed_proposal b.plan q) where
+    sides : map (placed_relaxed a.plan) p.loosening ≡ map (placed_relaxed b.plan) q.loosening
+    sides = ap (λ (z : Stated). z.loosening) at
+
+    loosens : (side : Side) (r s : Requirement) → AreTwins a b sound_a sound_b same r s →
+        side_units p.loosening (record { item = item.Requirement r.slot; side = side }) ≡ side_units q.loosening (record { item = item.Requirement s.slot; side = side })
+    loosens side r s twins = units_twin side (item.Requirement r.slot) (item.Requirement s.slot) (twin_items r s twins) p.loosening q.loosening fits_p.sides.among fits_q.sides.among sides
+
+    narrows : (side : Side) (d : ℕ) → d < length a.plan.uncertains → side_units p.loosening (record { item = item.Uncertain d; side = side }) ≡ side_units q.loosening (record { item = item.Uncertain d; side = side })
+    narrows side d inside =
+        units_twin side (item.Uncertain d) (item.Uncertain d) (record { here = inside; there = omega (arith, inside, ap (λ (us : List Uncertain). length us) same.uncertains); at = refl }) p.loosening q.loosening fits_p.sides.among
+        fits_q.sides.among sides
+
+    pub stated_twin : AreWorthTheSame p q
+    stated_twin =
+        let x : Proposal = proposal_of a.plan p in
+        let v : SideKey → ℕ = side_units q.loosening in
+        let picks : p.picks ≡ q.picks = ap (λ (z : Stated). z.picks) at in
+        let times : p.times ≡ q.times = ap (λ (z : Stated). z.times) at in
+        let is : y x v loosens narrows ≡ proposal_of b.plan q = λ i. record { branch = picks_of (picks i) (length (same.choices i)); units = v; times = scheduled_time (times i) } in
+        record {
+          allowed = λ allowed. subst (Allowed b 1) is (allowed_same x v loosens narrows 1 allowed);
+          cost = cost_same x v loosens narrows 1 ∙ ap (cost b.plan 1) is;
+        }
