@@ -1,0 +1,14 @@
+pub mod Places
+pub mod EntryMade
+pub mod Contents
+pub mod Reordered
+pub mod Fits
+pub mod Making
+pub mod Shown
+pub mod Proved
+pub mod SameVetoes
+pub mod Twins
+pub mod TwinLeaves
+pub mod TwinDocuments
+pub mod TwinProposals
+pub mod SlotsConfirm
