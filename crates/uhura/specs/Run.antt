@@ -1,15 +1,17 @@
 -- What a run leaves, by the words on the command line and by its status.
-use Rattle.std.specs.Prelude.{◌≡◌, ℕ, ◌+◌, ◌<◌, ◌≤◌, ◌⊎◌, Bool, true, false, List, [], ◌∷◌, length, take, codes, bytes_eq, string_bytes, Option, None, Some, String, if◌then◌else◌}
+use Rattle.std.specs.Prelude.{◌≡◌, ℕ, ℤ, pos, int_le, unsigned_abs, ◌&&◌, option_and_then, ◌+◌, ◌<◌, ◌≤◌, ◌⊎◌, Bool, true, false, List, [], ◌∷◌, length, take, codes, bytes_eq, string_bytes, Option, None, Some, String, if◌then◌else◌}
 use Rattle.std.specs.Io.KnownBytes.{Appends, Consumes, IsAtEnd}
 use Rattle.uhura_io.specs.Streams.{HasRisen}
 use Rattle.uhura_text.specs.Lines.{lines, whole}
+use Rattle.uhura_text.specs.Number.{number_of}
 use Rattle.uhura_veto.specs.State.{State}
 use Rattle.uhura_command.specs.State.{empty_state}
 use Rattle.uhura_session.specs.Transcript.{Conversation, Transcript}
 use Rattle.uhura.specs.declared.bytes.TheConstants.{INPUT_LIMIT}
 use Rattle.uhura.specs.declared.task.Task.{Task}
-use Rattle.uhura.specs.declared.task.Task.TheVariants.{Script, Check}
+use Rattle.uhura.specs.declared.task.Task.TheVariants.{Script, Check, Measure}
 use Rattle.uhura.specs.Verdict.{TellsVerdict}
+use Rattle.uhura.specs.Measure.{Measures}
 use Rattle.uhura.specs.declared.status.Status.{Status}
 use Rattle.uhura.specs.declared.status.Status.TheVariants.{Done, Refused, Usage, TooLong, ReadFault, WriteFault, NoMemory}
 
@@ -18,11 +20,22 @@ abbrev pub task_named : List ℕ → Option Task
 task_named word = if bytes_eq word (codes "run") then Some Script
     else if bytes_eq word (codes "check") then Some Check else None
 
--- what the words ask for: no word asks for what the word run does, and more words for nothing
+-- numbers from 1 to 2,147,483,646 have a plan
+abbrev pub seeded : ℤ → Option Task
+seeded number = if int_le (pos 1) number && int_le number (pos 2147483646)
+    then Some (Measure (unsigned_abs number)) else None
+
+-- what a word asks for behind the word measure: for the plan of the number that it writes
+abbrev pub measured : List ℕ → Option Task
+measured word = option_and_then seeded (number_of word)
+
+-- what the words ask for: no word asks for what the word run does, and the word measure stands before a number
 abbrev pub task_of : {A : Type 0} → List (String A) → Option Task
 task_of [] = Some Script
 task_of (word ∷ []) = task_named (string_bytes word)
-task_of (word ∷ next ∷ more) = None
+task_of (word ∷ next ∷ []) =
+    if bytes_eq (string_bytes word) (codes "measure") then measured (string_bytes next) else None
+task_of (word ∷ next ∷ third ∷ more) = None
 
 -- what the source has left and what was written to the sink, where they tell it
 pub record Ends : Type 0 where
@@ -104,11 +117,14 @@ pub record ChecksDocument (before after : Ends) (status : Status) : Type 0 where
   pub taken : Consumes before.left after.left bytes
   pub leaves : LeavesVerdict status bytes before after
 
--- by what the words ask for: a script is run, a document is checked, and words that ask for nothing are answered Usage
+-- by what the words ask for: a script is run, a document is checked, a plan is measured, for which nothing is read, and
+-- words that ask for nothing are answered Usage
 abbrev pub Runs : Option Task → Ends → Ends → Status → Type 0
 Runs None before after status = status ≡ Usage
 Runs (Some Script) before after status = RunsScript before after status
 Runs (Some Check) before after status = ChecksDocument before after status
+Runs (Some (Measure number)) before after status =
+    (after.left ≡ before.left) × Measures number before.written after.written status
 
 -- by the bytes given before and after: an input that was read to its end, or to a read fault, is within the limit,
 -- and one that is too long is past it

@@ -1,9 +1,11 @@
-//! Uhura: reads a script of edits and questions, and answers line by line; or reads a document, and checks it.
+//! Uhura: reads a script of edits and questions, and answers line by line; or reads a document, and checks it;
+//! or measures itself on a large plan.
 #![tactic(auto)]
 
 mod arguments;
 mod bytes;
 mod document;
+mod measure;
 mod outbox;
 mod run;
 mod script;

@@ -1,10 +1,12 @@
 //! A run of the program: its words say what it does, and its status how it ended.
-ghost use Rattle.std.specs.Prelude.{◌≡◌, ◌^◌, ◌<◌};
+ghost use Rattle.std.specs.Prelude.{◌≡◌, ◌^◌, ◌<◌, ℕ, Some};
 ghost use Rattle.uhura.specs.declared.status.Status.TheVariants.{Usage};
+ghost use Rattle.uhura.specs.declared.task.Task.TheVariants.{Measure};
 ghost use Rattle.uhura.specs.Run.{task_of, Ends, Runs, RunsScript, HasSize, MeetsReadFault, MeetsWriteFault};
 
 use crate::Status;
 use crate::document::check_document;
+use crate::measure::measure;
 use crate::outbox::Outbox;
 use crate::script::answer_script;
 use crate::task::{Task, read_task};
@@ -15,7 +17,8 @@ use uhura_text::Lines;
 
 /// Does what the words ask for. With no word, or the one word `run`, it reads a script from the source and writes the
 /// answers to its lines, in order, to the sink. With the one word `check` it reads a document, and writes `confirmed`,
-/// or `not confirmed` with the first condition that it fails and the line of it.
+/// or `not confirmed` with the first condition that it fails and the line of it. With the words `measure N` it reads
+/// nothing, asks the plan that the number N gives, and writes what the document of the answer says.
 ///
 /// `outcome` speaks of the bytes where the source tells what it has left and the sink what was written: only there
 /// are Done and Refused told apart. The causes of the other statuses hold of every source and sink, that of `TooLong`
@@ -34,6 +37,8 @@ pub fn run<S: Source, K: Sink>(
         (record { left = S.left source.old; written = K.written sink.old })
         (record { left = S.left source.new; written = K.written sink.new }) result }
     ensures untouched { result ≡ Usage → (source.new ≡ source.old) × (sink.new ≡ sink.old) }
+    ensures unread { (number : ℕ) → task_of words.now.items ≡ Some (Measure number) →
+        source.new ≡ source.old }
 
     // These hold of a source and a sink that tell nothing, too.
     ensures size { S.given source.old < 2 ^ 63 →
@@ -44,6 +49,7 @@ pub fn run<S: Source, K: Sink>(
     match read_task(words) {
         Some(Task::Script) => run_script(alloc, source, sink),
         Some(Task::Check) => check_document(alloc, source, sink),
+        Some(Task::Measure { number }) => measure(alloc, number, sink),
         None => Status::Usage,
     }
 }

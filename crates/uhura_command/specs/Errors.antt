@@ -11,10 +11,6 @@ use Rattle.uhura_command.specs.declared.state.refusal.StateRefusal.TheVariants a
 abbrev pub error_text : List ℕ → List ℕ → List ℕ
 error_text code name = line_of (codes "error" ∷ code ∷ name ∷ [])
 
--- the answer to a command whose part isn't built yet
-abbrev pub unbuilt_text : List ℕ
-unbuilt_text = error_text (codes "14") (codes "Unbuilt")
-
 -- the text says why a line is no command. Want of memory is no answer
 abbrev pub IsLineError : LineRefusal → List ℕ → Type 0
 IsLineError line.Long text = text ≡ error_text (codes "1") (codes "Long")

@@ -1,6 +1,6 @@
 //! The lines that answer refused lines.
 ghost use Rattle.std.specs.Prelude.{◌≡◌, IfOk};
-ghost use Rattle.uhura_command.specs.Errors.{IsLineError, IsStateError, unbuilt_text};
+ghost use Rattle.uhura_command.specs.Errors.{IsLineError, IsStateError};
 
 use crate::StateRefusal;
 use std::alloc::AllocError;
@@ -43,11 +43,4 @@ pub fn put_state_error(text: &mut Vec<u8>, refusal: StateRefusal) -> Result<(), 
         StateRefusal::Held { .. } => rewrite(text, b"error 13 Held\n"),
         StateRefusal::Memory(error) => Err(error),
     }
-}
-
-/// Writes that a command's part isn't built yet, in place of what the text holds.
-pub fn put_unbuilt(text: &mut Vec<u8>) -> Result<(), AllocError>
-    ensures { IfOk result (λ _. text.new.items ≡ unbuilt_text) }
-{
-    rewrite(text, b"error 14 Unbuilt\n")
 }

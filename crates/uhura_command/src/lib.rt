@@ -6,6 +6,6 @@ mod error;
 pub mod laws;
 mod state;
 
-pub use error::{put_line_error, put_state_error, put_unbuilt};
+pub use error::{put_line_error, put_state_error};
 pub use state::{State, StateRefusal};
 pub use uhura_line::{Command, ItemName, LineRefusal, Literals, parse, write_command};

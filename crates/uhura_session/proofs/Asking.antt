@@ -35,3 +35,7 @@ module _ (before now : Dialogue) (new : Searched) (same : before ≡ now) where
   pub proposed : IsAnswered before.searcher new before.state.plan → SearchesCommand command.Propose now.state now.searcher new
   unfolding SearchesCommand
   proposed answered = subst (λ (d : Dialogue). IsAnswered d.searcher new d.state.plan) same answered
+
+  pub proved : IsAnswered before.searcher new before.state.plan → SearchesCommand command.Prove now.state now.searcher new
+  unfolding SearchesCommand
+  proved answered = subst (λ (d : Dialogue). IsAnswered d.searcher new d.state.plan) same answered

@@ -38,7 +38,7 @@ module _ (old new : Searched) where
   unfolding SearchesCommand
   command-keeps command.Show state stands same = inl same
   command-keeps command.Propose state stands answered = inl (asked-again state.plan stands answered)
-  command-keeps command.Prove state stands same = inl same
+  command-keeps command.Prove state stands answered = inl (asked-again state.plan stands answered)
   command-keeps c state stands edits = edit-revises (refusal_of state c) edits
 
   parsed-keeps : (parsed : Result (Option Command) LineRefusal) (state : State) → IsTrue old.stands → SearchesParsed parsed state old new → (new ≡ old) ⊎ IsRevised old new

@@ -2,6 +2,7 @@ pub mod Conversing
 pub mod Kept
 pub mod AnswersEdits
 pub mod Asking
+pub mod ShownFound
 pub mod ShowReplays
 pub mod Refusals
 pub mod SameVetoes

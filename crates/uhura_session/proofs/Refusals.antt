@@ -12,7 +12,9 @@ use Rattle.uhura_command.specs.Errors.{begins_as_error}
 use Rattle.uhura_command.specs.Script.{commands_of, command_line}
 use Rattle.uhura_command.proofs.ErrorLines.{line_error, state_error, command_no_error}
 use Rattle.uhura_cert.specs.declared.document.Proposal.{Proposal as Stated}
-use Rattle.uhura_session.specs.Answers.{Reply, Refuses, Tells, IsProposed, AnswersEdit, AnswersCommand, AnswersParsed, Answers, answer_text, shown_text}
+use Rattle.uhura_cert.specs.Document.{Document}
+use Rattle.uhura_cert.specs.Items.{text_of}
+use Rattle.uhura_session.specs.Answers.{Reply, Refuses, Tells, IsProposed, IsProved, AnswersEdit, AnswersCommand, AnswersParsed, Answers, answer_text, shown_text}
 
 -- the answer says by its text whether its line was refused
 abbrev pub IsTold : Reply → Type 0
@@ -42,6 +44,13 @@ answer_no_error plan (Some p) = refl
 proposal_no_error : (state : State) (text : List ℕ) → IsProposed state text → begins_as_error text ≡ false
 proposal_no_error state text is = ap begins_as_error is.is_text ∙ answer_no_error state.plan is.answer
 
+-- a document begins with its version
+document_no_error : (d : Document) → begins_as_error (text_of d) ≡ false
+document_no_error d = refl
+
+proof_no_error : (state : State) (text : List ℕ) → IsProved state text → begins_as_error text ≡ false
+proof_no_error state text is = ap begins_as_error is.proof.is_text ∙ document_no_error is.proof.document
+
 edit_told : (c : Command) (state : State) (reply : Reply) (first : Option StateRefusal) → AnswersEdit first c state reply → IsTold reply
 edit_told c state reply None accepts = accepts.granted ∙ sym (ap begins_as_error accepts.says)
 edit_told c state reply (Some refusal) refuses = refusal_told _ state reply (state_error refusal) refuses
@@ -50,7 +59,7 @@ command_told : (c : Command) (state : State) (reply : Reply) → AnswersCommand 
 unfolding AnswersCommand
 command_told command.Show state reply answers = answer_told _ state reply (shown_no_error state) answers
 command_told command.Propose state reply answers = answer_told (IsProposed state) state reply (proposal_no_error state) answers
-command_told command.Prove state reply answers = refusal_told _ state reply (λ text is. ap begins_as_error is) answers
+command_told command.Prove state reply answers = answer_told (IsProved state) state reply (proof_no_error state) answers
 command_told c state reply answers = edit_told c state reply (refusal_of state c) answers
 
 line_told : (result : Result (Option Command) LineRefusal) (state : State) (reply : Reply) → AnswersParsed result state reply → IsTold reply

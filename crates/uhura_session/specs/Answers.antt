@@ -9,11 +9,12 @@ use Rattle.uhura_line.specs.Parses.{Parses}
 use Rattle.uhura_line.specs.Written.{line_of}
 use Rattle.uhura_command.specs.declared.state.refusal.StateRefusal.{StateRefusal}
 use Rattle.uhura_command.specs.Apply.{refusal_of, Applies}
-use Rattle.uhura_command.specs.Errors.{IsLineError, IsStateError, unbuilt_text}
+use Rattle.uhura_command.specs.Errors.{IsLineError, IsStateError}
 use Rattle.uhura_command.specs.Script.{script}
 use Rattle.uhura_item.specs.Item.{item_line}
 use Rattle.uhura_cert.specs.declared.document.Proposal.{Proposal as Stated}
 use Rattle.uhura_cert.specs.Items.{answer_items}
+use Rattle.uhura_proof.specs.Proof.{IsProof}
 use Rattle.uhura_answer.specs.Stated.{IsBestAnswer}
 
 -- an accepted edit is answered `ok`
@@ -58,6 +59,12 @@ pub record IsProposed (state : State) (text : List ℕ) : Type 0 where
   pub best : IsBestAnswer state answer
   pub is_text : text ≡ answer_text state.plan answer
 
+-- the text is the document of a best proposal, or of `none` where nothing is allowed
+pub record IsProved (state : State) (text : List ℕ) : Type 0 where
+  pub answer : Option Stated
+  pub best : IsBestAnswer state answer
+  pub proof : IsProof state answer text
+
 -- what is answered to an edit, by its first refusal: it is accepted where it has none
 abbrev pub AnswersEdit : Option StateRefusal → Command → State → Reply → Type 0
 AnswersEdit None c state reply = Accepts c state reply
@@ -70,7 +77,7 @@ AnswersCommand command.Show state reply =
 AnswersCommand command.Propose state reply =
     Tells (IsProposed state) state reply
 AnswersCommand command.Prove state reply =
-    Refuses (λ text. text ≡ unbuilt_text) state reply
+    Tells (IsProved state) state reply
 AnswersCommand c state reply = AnswersEdit (refusal_of state c) c state reply
 
 -- what is answered to a line, by what it is parsed to

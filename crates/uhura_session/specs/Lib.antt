@@ -1,5 +1,6 @@
 pub mod Answers
 pub mod Session
+pub mod Found
 pub mod Searching
 pub mod Transcript
 pub mod Line

@@ -30,11 +30,11 @@ abbrev pub SearchesEdit : Option StateRefusal → Searched → Searched → Type
 SearchesEdit None old new = IsRevised old new
 SearchesEdit (Some refusal) old new = new ≡ old
 
--- `propose` asks it, and no other command but an accepted edit changes it
+-- a question asks it, and no other command but an accepted edit changes it
 unfoldable pub SearchesCommand : Command → State → Searched → Searched → Type 0
 SearchesCommand command.Show state old new = new ≡ old
 SearchesCommand command.Propose state old new = IsAnswered old new state.plan
-SearchesCommand command.Prove state old new = new ≡ old
+SearchesCommand command.Prove state old new = IsAnswered old new state.plan
 SearchesCommand c state old new = SearchesEdit (refusal_of state c) old new
 
 -- a line that has no command, or is refused as it is read, leaves it as it was

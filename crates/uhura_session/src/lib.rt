@@ -3,10 +3,13 @@
 #![tactic(auto)]
 
 mod answer;
+mod ask;
 mod edit;
 pub mod laws;
 mod propose;
+mod proving;
 mod session;
 
 pub use answer::Answer;
+pub use proving::prove;
 pub use session::Session;

@@ -5,8 +5,8 @@ ghost use Rattle.uhura_search.specs.Searcher.{StandsFor};
 ghost use Rattle.uhura_session.specs.Answers.{IsProposed, answer_text};
 ghost use Rattle.uhura_session.specs.Searching.{IsAnswered, IsAsked};
 
+use crate::ask::ask;
 use std::alloc::{AllocError, Global};
-use uhura_answer::stated_answer;
 use uhura_cert::{Proposal, write_proposal};
 use uhura_command::State;
 use uhura_relax::RelaxScratch;
@@ -27,9 +27,8 @@ pub fn propose(
     ensures asked { IsAsked searcher.old searcher.new state.now.plan }
     ensures stands_for { StandsFor searcher.new state.now }
 {
-    let outcome = searcher.best(&state.plan, &state.vetoes)?;
-    let answer = stated_answer(alloc, state, &outcome, relax)?;
-    put_answer(text, state, &answer)
+    let found = ask(alloc, state, searcher, relax)?;
+    put_answer(text, state, &found.answer)
 }
 
 /// Writes the proposal, or `none`.

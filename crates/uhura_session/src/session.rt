@@ -10,9 +10,10 @@ ghost use Rattle.uhura_session.specs.Searching.{Searches, SearchesCommand, IsAsk
 use crate::Answer;
 use crate::edit::edit;
 use crate::propose::propose;
+use crate::proving::prove;
 use std::alloc::{AllocError, Global};
 use std::marker::Model;
-use uhura_command::{Command, State, parse, put_line_error, put_unbuilt};
+use uhura_command::{Command, State, parse, put_line_error};
 use uhura_relax::RelaxScratch;
 use uhura_search::Searcher;
 
@@ -60,7 +61,7 @@ impl Session {
     }
 
     /// Answers a line, without its newline and its CR. Of a line of more than 4,096 bytes the first 4,097 are enough.
-    /// An accepted edit revises the searcher, `propose` asks it, and no other line changes it. After want of memory
+    /// An accepted edit revises the searcher, a question asks it, and no other line changes it. After want of memory
     /// the state is as before, and the searcher may be asked again.
     pub fn line(&mut self, line: &[u8]) -> Result<Answer<'_>, AllocError>
         ensures* answers { sem 𝓛 (LeavesAnswer self.entry line.now result) }
@@ -155,8 +156,14 @@ impl Session {
                 Ok(false)
             }
             Command::Prove => {
-                put_unbuilt(&mut self.text)?;
-                Ok(true)
+                prove(
+                    self.alloc,
+                    &self.state,
+                    &mut self.searcher,
+                    &mut self.relax,
+                    &mut self.text,
+                )?;
+                Ok(false)
             }
             _ => edit(&mut self.state, &mut self.searcher, &mut self.text, command),
         }

@@ -1,7 +1,7 @@
 use Rattle.std.proofs.Common.{ap}
 use Rattle.uhura_session.specs.Session.{Dialogue}
 use Rattle.uhura_session.proofs.AnswersEdits.{answers_show}
-use Rattle.uhura_session.proofs.Asking.{stopped, proposed}
+use Rattle.uhura_session.proofs.Asking.{stopped, proposed, proved}
 use Rattle.uhura_session.proofs.session.Session.answer_command.Goals as goal
 
 pub returns-in_ok-extend_from_slice-in-Show-clause-ok : goal.returns-in_ok-extend_from_slice-in-Show-clause-ok
@@ -21,3 +21,13 @@ pub returns-in_ok-propose-in-Propose-clause-searches : goal.returns-in_ok-propos
 returns-in_ok-propose-in-Propose-clause-searches c =
     let before : Dialogue = record { state = c.self.inside.state; searcher = c.self.inside.searcher; text = c.self.inside.text.items } in
     rw c.in-Propose.is (proposed before c.args.self.now c.propose.new.searcher c.self.view_is c.in_ok-propose-in-Propose.ensures.answered)
+
+pub returns-in_err-prove-in-Prove-clause-searcher : goal.returns-in_err-prove-in-Prove-clause-searcher
+returns-in_err-prove-in-Prove-clause-searcher c =
+    let before : Dialogue = record { state = c.self.inside.state; searcher = c.self.inside.searcher; text = c.self.inside.text.items } in
+    stopped before c.args.self.now c.prove.new.searcher c.self.view_is c.from_residual-in_err-prove-in-Prove.result c.prove.ensures.asked
+
+pub returns-in_ok-prove-in-Prove-clause-searches : goal.returns-in_ok-prove-in-Prove-clause-searches
+returns-in_ok-prove-in-Prove-clause-searches c =
+    let before : Dialogue = record { state = c.self.inside.state; searcher = c.self.inside.searcher; text = c.self.inside.text.items } in
+    rw c.in-Prove.is (proved before c.args.self.now c.prove.new.searcher c.self.view_is c.in_ok-prove-in-Prove.ensures.answered)
