@@ -10,7 +10,7 @@ use Rattle.std.proofs.Math.ListN.{drop_of_length-le}
 use Rattle.uhura_plan.specs.declared.key.EdgeKey.{EdgeKey}
 use Rattle.uhura_net.specs.declared.edge.TheConstants.{NODES}
 use Rattle.uhura_net.specs.declared.edge.Edge.{Edge}
-use Rattle.uhura_check.specs.Edges.{edge_in, IsWithin, IsSmallEdge, AreFew, most_edges, sum_of}
+use Rattle.uhura_check.specs.Edges.{edge_in, IsWithin, IsSmallEdge, AreFew, most_edges, greatest_units, sum_of}
 use Rattle.uhura_check.specs.Ledger.{due_at, brought, brought_by, IsLedgerOf, IsClear, IsEven}
 use Rattle.uhura_check.proofs.Adding.{IsAddedUp, added_up-more}
 
@@ -52,10 +52,10 @@ units_at-few at units node = by (at == node)
     by false = omega arith
 
 -- units that fit are brought, and so at most so many
-pub brought-within : (edge : Edge) (units node : ℕ) → units ≤ 18446744073709551615 → IsWithin 18446744073709551615 (brought edge units node)
+pub brought-within : (edge : Edge) (units node : ℕ) → units ≤ greatest_units → IsWithin greatest_units (brought edge units node)
 brought-within edge units node few = by (edge.to == node) (edge.from == node)
   where
-    by : (a b : Bool) → IsWithin 18446744073709551615 (pos (if a then units else 0) -ℤ pos (if b then units else 0))
+    by : (a b : Bool) → IsWithin greatest_units (pos (if a then units else 0) -ℤ pos (if b then units else 0))
     by true true = record { below = omega (arith, ints, few); above = omega (arith, ints, few) }
     by true false = record { below = omega (arith, ints, few); above = omega (arith, ints, few) }
     by false true = record { below = omega (arith, ints, few); above = omega (arith, ints, few) }
@@ -63,20 +63,20 @@ brought-within edge units node few = by (edge.to == node) (edge.from == node)
 
 -- the first pairs are entered
 abbrev pub AreEntered : List (Option Edge) → List (EdgeKey × ℕ) → ℕ → List ℤ → Type 0
-AreEntered table pairs count due = (node : ℕ) → node < NODES → IsAddedUp (brought_by table node) pairs 18446744073709551615 count (due_at due node)
+AreEntered table pairs count due = (node : ℕ) → node < NODES → IsAddedUp (brought_by table node) pairs greatest_units count (due_at due node)
 
 pub entered-within : (table : List (Option Edge)) (pairs : List (EdgeKey × ℕ)) (count : ℕ) (due : List ℤ) → AreFew pairs → count ≤ length pairs → AreEntered table pairs count due →
-    (node : ℕ) → node < NODES → IsWithin (most_edges * 18446744073709551615) (due_at due node)
+    (node : ℕ) → node < NODES → IsWithin (most_edges * greatest_units) (due_at due node)
 entered-within table pairs count due few inside entered node below =
     let small = (entered node below).small in
     record { below = omega (arith, ints, small.below, few.few, inside); above = omega (arith, ints, small.above, few.few, inside) }
 
-pub entered-more : (table : List (Option Edge)) (pairs : List (EdgeKey × ℕ)) (count : ℕ) (old new : List ℤ) (pair : EdgeKey × ℕ) → count < length pairs → (get_or pairs count pair).1 ≤ 18446744073709551615 →
+pub entered-more : (table : List (Option Edge)) (pairs : List (EdgeKey × ℕ)) (count : ℕ) (old new : List ℤ) (pair : EdgeKey × ℕ) → count < length pairs → (get_or pairs count pair).1 ≤ greatest_units →
     ((node : ℕ) → node < NODES → due_at new node ≡ due_at old node +ℤ brought_by table node (get_or pairs count pair)) → AreEntered table pairs count old → AreEntered table pairs (count + 1) new
 entered-more table pairs count old new pair inside few changed entered node below =
     let term : ℤ = brought_by table node (get_or pairs count pair) in
-    subst (λ z. IsAddedUp (brought_by table node) pairs 18446744073709551615 (count + 1) z) (sym (changed node below))
-    (added_up-more (brought_by table node) pairs 18446744073709551615 count (due_at old node) pair term inside refl (brought-within (edge_in table (get_or pairs count pair).0) (get_or pairs count pair).1 node few) (entered node below))
+    subst (λ z. IsAddedUp (brought_by table node) pairs greatest_units (count + 1) z) (sym (changed node below))
+    (added_up-more (brought_by table node) pairs greatest_units count (due_at old node) pair term inside refl (brought-within (edge_in table (get_or pairs count pair).0) (get_or pairs count pair).1 node few) (entered node below))
 
 -- ---- what no edge brings
 

@@ -18,12 +18,15 @@ pub record IsWithin (most : ℕ) (z : ℤ) : Type 0 where
   pub below : neg_ℤ (pos most) ≤ℤ z
   pub above : z ≤ℤ pos most
 
--- how great bounds get, and what units are worth at them
+-- how great bounds and units get, and what units are worth
 abbrev pub greatest_bound : ℕ
 greatest_bound = 20000000000000
 
+abbrev pub greatest_units : ℕ
+greatest_units = 18446744073709551615
+
 abbrev pub greatest_worth : ℕ
-greatest_worth = 18446744073709551616 * 20000000000000
+greatest_worth = greatest_units * greatest_bound
 
 -- an edge between two nodes, with a bound that sums leave room for
 pub record IsSmallEdge (edge : Edge) : Type 0 where

@@ -21,8 +21,8 @@ pub(crate) fn is_active_item(plan: &Plan, prefix: &Prefix, item: Item) -> bool
     }
 }
 
-/// The requirement in a slot. In a plan that was read from a text it stands in the place of its slot, where it is found
-/// at once.
+/// The requirement in a slot. In a plan that was read from a text it stands in the place of its slot, where it is
+/// found at once.
 fn requirement_in(plan: &Plan, slot: u32) -> Option<&Requirement>
     ensures { option_copied result ≡ requirement_in plan.now slot }
 {

@@ -2,7 +2,7 @@
 ghost use Rattle.std.specs.Prelude.{◌≡◌, ◌<◌, ◌≤◌, ◌+◌, ◌*◌, ◌+ℤ◌, ◌-ℤ◌, ℕ, pos, All, length, slice_set};
 ghost use Rattle.std.specs.Bool.{Decides};
 ghost use Rattle.uhura_net.specs.declared.edge.TheConstants.{NODES};
-ghost use Rattle.uhura_check.specs.Edges.{edge_in, IsWithin, IsSmallEdge, AreFew, most_edges};
+ghost use Rattle.uhura_check.specs.Edges.{edge_in, IsWithin, IsSmallEdge, AreFew, most_edges, greatest_units};
 ghost use Rattle.uhura_check.specs.Ledger.{due_at, brought, IsClear, IsLedgerOf, IsEven};
 
 use crate::edges::edge_in;
@@ -12,7 +12,7 @@ use uhura_plan::EdgeKey;
 /// A node is due so many units more.
 fn add(due: &mut [i128], node: u32, units: u64)
     requires inside { node < length due.old }
-    requires due { IsWithin ((most_edges + 1) * 18446744073709551615) (due_at due.old node) }
+    requires due { IsWithin ((most_edges + 1) * greatest_units) (due_at due.old node) }
     ensures { due.new ≡ slice_set due.old node (due_at due.old node +ℤ pos units) }
 {
     due[node as usize] += i128::from(units);
@@ -21,7 +21,7 @@ fn add(due: &mut [i128], node: u32, units: u64)
 /// A node is due so many units less.
 fn take(due: &mut [i128], node: u32, units: u64)
     requires inside { node < length due.old }
-    requires due { IsWithin ((most_edges + 1) * 18446744073709551615) (due_at due.old node) }
+    requires due { IsWithin ((most_edges + 1) * greatest_units) (due_at due.old node) }
     ensures { due.new ≡ slice_set due.old node (due_at due.old node -ℤ pos units) }
 {
     due[node as usize] -= i128::from(units);
@@ -32,16 +32,17 @@ fn enter(due: &mut [i128], edge: Edge, units: u64)
     requires nodes { length due.old ≡ NODES }
     requires edge { IsSmallEdge edge }
     requires due { (node : ℕ) → node < NODES →
-        IsWithin (most_edges * 18446744073709551615) (due_at due.old node) }
+        IsWithin (most_edges * greatest_units) (due_at due.old node) }
     ensures due { (node : ℕ) → node < NODES →
         due_at due.new node ≡ due_at due.old node +ℤ brought edge units node }
-    ensures fits { units ≤ 18446744073709551615 }
+    ensures fits { units ≤ greatest_units }
 {
     add(due, edge.to, units);
     take(due, edge.from, units);
 }
 
-/// All units go along their edges, where no node is due anything before.
+/// All units go along their edges, where no node is due anything before. There are at most 16,128 edges, with less
+/// than 2^64 units on each, so that what a node is due is far within an `i128`.
 pub(crate) fn enter_all(due: &mut [i128], table: &EdgeTable, pairs: &[(EdgeKey, u64)])
     requires nodes { length due.old ≡ NODES }
     requires clear { IsClear due.old }

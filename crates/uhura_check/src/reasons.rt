@@ -34,8 +34,8 @@ use uhura_command::State;
 use uhura_net::EdgeTable;
 use uhura_plan::EdgeKey;
 
-/// What the reason of a leaf with this prefix fails first, where it stands in its own line. What the document's shared
-/// entries come to is known.
+/// What the reason of a leaf with this prefix fails first, where it stands in its own line. What the shared entries
+/// of the document come to is known.
 pub(crate) fn reason_failure(
     document: &Document,
     entries: &Entries,
@@ -172,8 +172,8 @@ fn is_stuck_by(state: &State, prefix: &Prefix, keys: &[EdgeKey], negative: bool)
     negative && are_active(&state.plan, prefix, keys)
 }
 
-/// What units on edges fail first: the first that may not carry its units behind the line `head`, their balance at it,
-/// or what they show at the reason's own.
+/// What units on edges fail first: an edge that may not carry its units, behind the line `head`, their balance at
+/// that line, or what they show at the line of the reason.
 fn flow_failure(
     state: &State,
     answer: &Option<(Branch, u128)>,
@@ -187,7 +187,8 @@ fn flow_failure(
     requires prefix { IsPrefix state.now.plan.choices prefix.now }
     requires answer { IfSome answer.now (λ a. IsBranch state.now.plan.choices a.0) }
     ensures { (line first : ℕ) → own ≡ told line → head ≡ told first →
-        Tells state.now answer.now (reason_asks prefix.now line first (leaf.Flow pairs.now)) result }
+        Tells state.now answer.now
+        (reason_asks prefix.now line first (leaf.Flow pairs.now)) result }
 {
     if let Some(place) = first_not_carried(state, prefix, pairs, flow.uncarried) {
         return Some(Failure {

@@ -9,7 +9,8 @@ use crate::edges::edge_in;
 use uhura_net::{Edge, EdgeTable};
 use uhura_plan::EdgeKey;
 
-/// Minus the sum of the bounds times the units.
+/// Minus the sum of the bounds times the units. There are at most 16,128 edges, with less than 2^64 units on each and
+/// bounds of at most 20,000,000,000,000 either way, so that the sum is far within an `i128`.
 pub(crate) fn flow_value(table: &EdgeTable, pairs: &[(EdgeKey, u64)]) -> i128
     requires { AreFew pairs.now }
     ensures value { (state : State) → IsTableOf state table.now →
