@@ -53,8 +53,7 @@ fn is_met(
 {
     // By its type the plan is sound.
     let _ = plan.choices();
-    !holds(&requirement.guard, branch)
-        || is_met_at_extremes(plan, loosening, times, requirement)
+    !holds(&requirement.guard, branch) || is_met_at_extremes(plan, loosening, times, requirement)
 }
 
 /// Whether a requirement is met where the one event is as early and the other as late as it may be.
