@@ -1,5 +1,5 @@
-//! Whether a proposal meets the requirements whatever the durations left. It does where each is met with the one event
-//! as early and the other as late as it may be, so no durations are tried one by one.
+//! Whether a proposal meets the requirements whatever the durations left. It does where each is met with the one
+//! event as early and the other as late as it may be, so no durations are tried one by one.
 ghost use Rattle.std.specs.Prelude.{◌≡◌, ◌+ℤ◌, ◌-ℤ◌, ◌≤ℤ◌, pos, neg_ℤ, List, All, Contains, MatchOption};
 ghost use Rattle.std.specs.Bool.{Decides};
 ghost use Rattle.uhura_choice.specs.declared.prefix.Pick.{Pick};
