@@ -8,7 +8,7 @@ use Rattle.uhura_plan.specs.declared.key.SideKey.{SideKey}
 use Rattle.uhura_choice.specs.declared.prefix.Pick.{Pick}
 use Rattle.uhura_worst.specs.Cost.{narrowings_cost}
 use Rattle.uhura_relax.specs.Schedule.{proposal_with}
-use Rattle.uhura_check.specs.Units.{with_units, narrowed_cost}
+use Rattle.uhura_check.specs.SideCosts.{with_units, narrowed_cost}
 
 -- one thing more
 pub sum-more : {X : Type 0} (f : X → ℕ) (xs : List X) (i : ℕ) (x : X) → slice_get xs i ≡ Some x → sum_by f (take (i + 1) xs) ≡ sum_by f (take i xs) + f x

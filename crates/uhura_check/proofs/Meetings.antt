@@ -25,7 +25,7 @@ use Rattle.uhura_worst.specs.WorstCase.{LeavesRanges, MeetsWorstCase, extreme_ti
 use Rattle.uhura_worst.proofs.SoundItems.{sound_requirement}
 use Rattle.uhura_worst.proofs.WorstCase.{IfSome-from_map, extremes-meet, extreme_times-are}
 use Rattle.uhura_check.specs.Conditions.{IsMet}
-use Rattle.uhura_check.specs.Units.{earliest_of, latest_of, IsMetAtExtremes}
+use Rattle.uhura_check.specs.Extremes.{earliest_of, latest_of, IsLongEnough, IsShortEnough, IsMetAtExtremes}
 use Rattle.uhura_check.proofs.Allowances.{there-below}
 
 -- the plan with one requirement alone
@@ -179,13 +179,13 @@ le-decided a b = by (le_z a b) refl
 -- one side at the extremes
 module _ (plan : Lists) (q : Proposal) (r : Requirement) (so : Bool) (given : ℤ) (units : ℕ) (from to : ℤ) where
   pub long-decided : (least : ℤ) → r.lower.bound ≡ Some least → given ≡ least → units ≡ loosened q Lower r → from ≡ latest_of plan q r.from → to ≡ earliest_of plan q r.to → Decides so ((given -ℤ pos units) ≤ℤ (to -ℤ from)) →
-      Decides so (IfSome r.lower.bound (λ (least : ℤ). (least -ℤ pos (loosened q Lower r)) ≤ℤ (earliest_of plan q r.to -ℤ latest_of plan q r.from)))
+      Decides so (IsLongEnough plan q r)
   long-decided least is same own late early decides =
       subst (λ (o : Option ℤ). Decides so (IfSome o (λ (least : ℤ). (least -ℤ pos (loosened q Lower r)) ≤ℤ (earliest_of plan q r.to -ℤ latest_of plan q r.from)))) (sym is)
       (λ holding. let apart : (given -ℤ pos units) ≤ℤ (to -ℤ from) = decides.0 holding in omega (arith, ints, apart, same, own, late, early), λ apart. decides.1 (omega (arith, ints, apart, same, own, late, early)))
 
   pub short-decided : (most : ℤ) → r.upper.bound ≡ Some most → given ≡ most → units ≡ loosened q Upper r → from ≡ earliest_of plan q r.from → to ≡ latest_of plan q r.to → Decides so ((to -ℤ from) ≤ℤ (given +ℤ pos units)) →
-      Decides so (IfSome r.upper.bound (λ (most : ℤ). (latest_of plan q r.to -ℤ earliest_of plan q r.from) ≤ℤ (most +ℤ pos (loosened q Upper r))))
+      Decides so (IsShortEnough plan q r)
   short-decided most is same own early late decides =
       subst (λ (o : Option ℤ). Decides so (IfSome o (λ (most : ℤ). (latest_of plan q r.to -ℤ earliest_of plan q r.from) ≤ℤ (most +ℤ pos (loosened q Upper r))))) (sym is)
       (λ holding. let near : (to -ℤ from) ≤ℤ (given +ℤ pos units) = decides.0 holding in omega (arith, ints, near, same, own, late, early), λ near. decides.1 (omega (arith, ints, near, same, own, late, early)))

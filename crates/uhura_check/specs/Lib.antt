@@ -8,7 +8,8 @@ pub mod Firsts
 pub mod Edges
 pub mod Ledger
 pub mod Reaches
-pub mod Units
+pub mod SideCosts
+pub mod Extremes
 pub mod Walked
 pub mod Entries
 pub mod Right

@@ -15,7 +15,8 @@ use Rattle.uhura_check.specs.declared.leaves.Reached.{Reached}
 use Rattle.uhura_check.specs.declared.failure.Failure.{Failure}
 use Rattle.uhura_check.specs.declared.refusal.Code.TheVariants as code
 use Rattle.uhura_check.specs.Failure.{told}
-use Rattle.uhura_check.specs.Table.{Asked, IsKept, line_behind, leaf_asks, leaves_asks, answer_asks, document_prefixes}
+use Rattle.uhura_check.specs.Table.{Asked, IsKept, line_behind, leaf_asks, leaves_asks}
+use Rattle.uhura_check.specs.Table.{answer_asks, document_prefixes}
 
 -- the answer is the one that the document states, and all that is asked of it holds
 pub record IsAnswered (d : Document) (answer : Answer) : Type 0 where

@@ -2,9 +2,9 @@
 ghost use Rattle.std.specs.Prelude.{◌≡◌, ◌≤◌, ℕ, ℤ, sum_by};
 ghost use Rattle.uhura_worst.specs.Cost.{second_cost, price_of, narrowings_cost, cost};
 ghost use Rattle.uhura_relax.specs.Schedule.{proposal_with};
-ghost use Rattle.uhura_check.specs.Units.{with_units, loosened_cost, narrowed_cost};
+ghost use Rattle.uhura_check.specs.SideCosts.{with_units, loosened_cost, narrowed_cost};
 
-use crate::keys::{requirement_side, duration_side};
+use crate::keys::{duration_side, requirement_side};
 use uhura_choice::{Branch, picked_cost};
 use uhura_plan::{Plan, Rate, Requirement, Side, Uncertain};
 use uhura_worst::Loosening;

@@ -1,7 +1,7 @@
 //! The checker of documents. `check` answers yes exactly where a document is confirmed (`specs/Confirmed.antt`), and
 //! else with the first of the conditions that it fails (`specs/Conditions.antt`), in their order and at their lines
-//! (`specs/Table.antt`, tried on worked documents in `examples`). `laws` says what a confirmed document shows, and that
-//! it is one exactly where no condition fails.
+//! (`specs/Table.antt`, tried on worked documents in `examples`). `laws` says what a confirmed document shows, and
+//! that it is one exactly where no condition fails.
 //!
 //! `stating` decides the conditions on the proposal, `leaves` goes from leaf to leaf, `reasons` decides what is asked
 //! of the reason of one, and `entries` works out once what the shared entries show.

@@ -1,15 +1,14 @@
-//! Whether a proposal meets the requirements whatever the durations left. It does where each is met with the one event
-//! as early and the other as late as it may be, so no durations are tried one by one.
-ghost use Rattle.std.specs.Prelude.{◌≡◌, ◌+ℤ◌, ◌-ℤ◌, ◌≤ℤ◌, ℕ, ℤ, pos, neg_ℤ, List, All, Contains, IfSome, MatchOption};
+//! Whether a proposal meets the requirements whatever the durations left. It does where each is met with the one
+//! event as early and the other as late as it may be, so no durations are tried one by one.
+ghost use Rattle.std.specs.Prelude.{◌≡◌, ◌+ℤ◌, ◌-ℤ◌, ◌≤ℤ◌, pos, neg_ℤ, List, All, Contains, MatchOption};
 ghost use Rattle.std.specs.Bool.{Decides};
-ghost use Rattle.uhura_plan.specs.declared.key.Side.TheVariants.{Lower, Upper};
 ghost use Rattle.uhura_choice.specs.declared.prefix.Pick.{Pick};
-ghost use Rattle.uhura_relax.specs.Schedule.{proposal_with, scheduled_time};
-ghost use Rattle.uhura_worst.specs.Proposal.{loosened};
+ghost use Rattle.uhura_relax.specs.Schedule.{scheduled_time};
 ghost use Rattle.uhura_worst.specs.WorstCase.{LeavesRanges};
 ghost use Rattle.uhura_check.specs.Conditions.{IsMet};
 ghost use Rattle.uhura_check.specs.Firsts.{IsFirstNot};
-ghost use Rattle.uhura_check.specs.Units.{earliest_of, latest_of, IsMetAtExtremes};
+ghost use Rattle.uhura_check.specs.Extremes.{proposal_by, earliest_of, latest_of};
+ghost use Rattle.uhura_check.specs.Extremes.{IsLongEnough, IsShortEnough, IsMetAtExtremes};
 
 use crate::keys::{duration_side, requirement_side};
 use uhura_choice::{Branch, holds};
@@ -23,13 +22,11 @@ pub(crate) fn first_not_met(
     loosening: &Loosening,
     times: &[u64],
 ) -> Option<u32>
-    requires { LeavesRanges plan.now 1
-        (proposal_with branch.now loosening.now (scheduled_time times.now)) }
+    requires { LeavesRanges plan.now 1 (proposal_by branch.now loosening.now times.now) }
     ensures { MatchOption result
-        (All (IsMet plan.now (proposal_with branch.now loosening.now (scheduled_time times.now)))
+        (All (IsMet plan.now (proposal_by branch.now loosening.now times.now))
         plan.now.requirements)
-        (IsFirstNot (IsMet plan.now
-        (proposal_with branch.now loosening.now (scheduled_time times.now)))
+        (IsFirstNot (IsMet plan.now (proposal_by branch.now loosening.now times.now))
         plan.now.requirements) }
 {
     for place in 0..plan.requirements() {
@@ -50,15 +47,13 @@ fn is_met(
     requirement: &Requirement,
 ) -> bool
     requires there { Contains plan.now.requirements requirement.now }
-    requires ranges { LeavesRanges plan.now 1
-        (proposal_with branch.now loosening.now (scheduled_time times.now)) }
-    ensures { Decides result (IsMet plan.now
-        (proposal_with branch.now loosening.now (scheduled_time times.now)) requirement.now) }
+    requires ranges { LeavesRanges plan.now 1 (proposal_by branch.now loosening.now times.now) }
+    ensures { Decides result (IsMet plan.now (proposal_by branch.now loosening.now times.now)
+        requirement.now) }
 {
     // By its type the plan is sound.
     let _ = plan.choices();
-    !holds(&requirement.guard, branch)
-        || is_met_at_extremes(plan, loosening, times, requirement)
+    !holds(&requirement.guard, branch) || is_met_at_extremes(plan, loosening, times, requirement)
 }
 
 /// Whether a requirement is met where the one event is as early and the other as late as it may be.
@@ -69,7 +64,7 @@ fn is_met_at_extremes(
     requirement: &Requirement,
 ) -> bool
     ensures { (branch : List Pick) → Decides result (IsMetAtExtremes plan.now
-        (proposal_with branch loosening.now (scheduled_time times.now)) requirement.now) }
+        (proposal_by branch loosening.now times.now) requirement.now) }
 {
     is_long_enough(plan, loosening, times, requirement)
         && is_short_enough(plan, loosening, times, requirement)
@@ -82,13 +77,8 @@ fn is_long_enough(
     times: &[u64],
     requirement: &Requirement,
 ) -> bool
-    ensures { (branch : List Pick) → Decides result (IfSome requirement.now.lower.bound (λ least.
-        (least -ℤ pos (loosened
-        (proposal_with branch loosening.now (scheduled_time times.now)) Lower requirement.now))
-        ≤ℤ (earliest_of plan.now
-        (proposal_with branch loosening.now (scheduled_time times.now)) requirement.now.to
-        -ℤ latest_of plan.now
-        (proposal_with branch loosening.now (scheduled_time times.now)) requirement.now.from))) }
+    ensures { (branch : List Pick) → Decides result (IsLongEnough plan.now
+        (proposal_by branch loosening.now times.now) requirement.now) }
 {
     let Some(least) = requirement.lower.bound else {
         return true;
@@ -106,14 +96,8 @@ fn is_short_enough(
     times: &[u64],
     requirement: &Requirement,
 ) -> bool
-    ensures { (branch : List Pick) → Decides result (IfSome requirement.now.upper.bound (λ most.
-        (latest_of plan.now
-        (proposal_with branch loosening.now (scheduled_time times.now)) requirement.now.to
-        -ℤ earliest_of plan.now
-        (proposal_with branch loosening.now (scheduled_time times.now)) requirement.now.from)
-        ≤ℤ (most +ℤ pos (loosened
-        (proposal_with branch loosening.now (scheduled_time times.now)) Upper
-        requirement.now)))) }
+    ensures { (branch : List Pick) → Decides result (IsShortEnough plan.now
+        (proposal_by branch loosening.now times.now) requirement.now) }
 {
     let Some(most) = requirement.upper.bound else {
         return true;
@@ -149,7 +133,7 @@ fn is_near(most: i64, units: u64, from: i128, to: i128) -> bool
 /// The earliest time of an event.
 fn earliest(plan: &Plan, loosening: &Loosening, times: &[u64], event: EventRef) -> i128
     ensures time { (branch : List Pick) → result ≡ earliest_of plan.now
-        (proposal_with branch loosening.now (scheduled_time times.now)) event }
+        (proposal_by branch loosening.now times.now) event }
     ensures least { neg_ℤ (pos 40_000_000_000_000_000_000) ≤ℤ result }
     ensures most { result ≤ℤ pos 40_000_000_000_000_000_000 }
 {
@@ -169,7 +153,7 @@ fn earliest(plan: &Plan, loosening: &Loosening, times: &[u64], event: EventRef) 
 /// The latest time of an event.
 fn latest(plan: &Plan, loosening: &Loosening, times: &[u64], event: EventRef) -> i128
     ensures time { (branch : List Pick) → result ≡ latest_of plan.now
-        (proposal_with branch loosening.now (scheduled_time times.now)) event }
+        (proposal_by branch loosening.now times.now) event }
     ensures least { neg_ℤ (pos 40_000_000_000_000_000_000) ≤ℤ result }
     ensures most { result ≤ℤ pos 40_000_000_000_000_000_000 }
 {

@@ -29,7 +29,11 @@ fn has_room(state: &State, branch: &Branch, loosening: &Loosening, side: (SideKe
 }
 
 /// The place of the first side that has no room, where there is one.
-pub(crate) fn first_without_room(state: &State, branch: &Branch, loosening: &Loosening) -> Option<usize>
+pub(crate) fn first_without_room(
+    state: &State,
+    branch: &Branch,
+    loosening: &Loosening,
+) -> Option<usize>
     ensures { (times : ℕ → ℤ) → MatchOption result
         (All (HasRoom state.now (proposal_with branch.now loosening.now times)) loosening.now)
         (IsFirstNot (HasRoom state.now (proposal_with branch.now loosening.now times))

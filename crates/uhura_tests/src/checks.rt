@@ -208,13 +208,55 @@ fn fails_first_where_a_proposal_is_changed(rt: HostRuntime) -> Result<(), AllocE
             Code::Cost,
             8,
         ),
-        (FIRST.as_slice(), 10, 0, "loosen near upper 1", Code::Cost, 8),
-        (FIRST.as_slice(), 10, 0, "loosen far lower 1", Code::Room, 10),
+        (
+            FIRST.as_slice(),
+            10,
+            0,
+            "loosen near upper 1",
+            Code::Cost,
+            8,
+        ),
+        (
+            FIRST.as_slice(),
+            10,
+            0,
+            "loosen far lower 1",
+            Code::Room,
+            10,
+        ),
         (FIRST.as_slice(), 11, 1, "at b 11", Code::Broken, 5),
-        (DRIVE.as_slice(), 8, 1, "loosen dinner upper 5", Code::Room, 8),
-        (DRIVE.as_slice(), 9, 1, "narrow drive lower 1", Code::Room, 9),
-        (DRIVE.as_slice(), 9, 1, "narrow drive upper 21", Code::Room, 9),
-        (DRIVE.as_slice(), 9, 1, "narrow drive upper 5", Code::Cost, 7),
+        (
+            DRIVE.as_slice(),
+            8,
+            1,
+            "loosen dinner upper 5",
+            Code::Room,
+            8,
+        ),
+        (
+            DRIVE.as_slice(),
+            9,
+            1,
+            "narrow drive lower 1",
+            Code::Room,
+            9,
+        ),
+        (
+            DRIVE.as_slice(),
+            9,
+            1,
+            "narrow drive upper 21",
+            Code::Room,
+            9,
+        ),
+        (
+            DRIVE.as_slice(),
+            9,
+            1,
+            "narrow drive upper 5",
+            Code::Cost,
+            7,
+        ),
         (
             DRIVE.as_slice(),
             7,
@@ -249,8 +291,22 @@ fn fails_first_where_a_leaf_is_changed(rt: HostRuntime) -> Result<(), AllocError
         (FIRST.as_slice(), 13, 1, "leaf right", Code::LeafOrder, 13),
         (FIRST.as_slice(), 13, 1, "leaf", Code::LeafOrder, 13),
         (FIRST.as_slice(), 15, 1, "leaf left", Code::LeafOrder, 15),
-        (FIRST.as_slice(), 19, 0, "leaf right\nflow", Code::LeafOrder, 19),
-        (SHORT_LEAF.as_slice(), 15, 1, "leaf cheap x", Code::LeafOrder, 19),
+        (
+            FIRST.as_slice(),
+            19,
+            0,
+            "leaf right\nflow",
+            Code::LeafOrder,
+            19,
+        ),
+        (
+            SHORT_LEAF.as_slice(),
+            15,
+            1,
+            "leaf cheap x",
+            Code::LeafOrder,
+            19,
+        ),
         (SHORT_LEAF.as_slice(), 19, 2, "", Code::LeafOrder, 19),
         (FIRST.as_slice(), 15, 4, "", Code::LeafMissing, 15),
         (DENIED.as_slice(), 9, 2, "", Code::LeafMissing, 9),
@@ -364,7 +420,11 @@ fn tells_shared_entries_at_their_lines(rt: HostRuntime) -> Result<(), AllocError
         (16, "units require far lower firm 1\nshared flow", None),
     ] {
         let text = changed(alloc, SECOND.as_slice(), at, with)?;
-        assert_eq!(rt; found_in(alloc, text.as_slice())?, found, "{with} at line {at}");
+        assert_eq!(rt;
+            found_in(alloc, text.as_slice())?,
+            found,
+            "{with} at line {at}"
+        );
     }
     Ok(())
 }
@@ -374,8 +434,8 @@ fn tells_shared_entries_at_their_lines(rt: HostRuntime) -> Result<(), AllocError
 fn is_never_confirmed_with_another_cost(rt: HostRuntime) -> Result<(), AllocError> {
     let alloc = rt.alloc();
     let words = [
-        "0", "1", "2", "9", "-", "a", "c", "left", "right", "near", "far", "less", "lower", "upper",
-        "loose", "firm", "steep", "order", "none", "end", "use", "flow", "stuck", "leaf",
+        "0", "1", "2", "9", "-", "a", "c", "left", "right", "near", "far", "less", "lower",
+        "upper", "loose", "firm", "steep", "order", "none", "end", "use", "flow", "stuck", "leaf",
     ];
     for (lines, script, cost) in [
         (FIRST.as_slice(), 7, 5),

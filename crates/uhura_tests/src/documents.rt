@@ -95,7 +95,12 @@ pub(crate) fn text_of(alloc: Global, lines: &[&str], end: &str) -> Result<Vec<u8
 }
 
 /// The lines with another text in place of one, which is counted from 1.
-pub(crate) fn changed(alloc: Global, lines: &[&str], at: usize, with: &str) -> Result<Vec<u8>, AllocError> {
+pub(crate) fn changed(
+    alloc: Global,
+    lines: &[&str],
+    at: usize,
+    with: &str,
+) -> Result<Vec<u8>, AllocError> {
     let mut text = Vec::new(alloc);
     for place in 0..lines.len() {
         let line = if place + 1 == at { with } else { lines[place] };

@@ -2,7 +2,7 @@ use Rattle.std.proofs.Common.{ap, sym, ◌∙◌, arith}
 use Rattle.std.specs.Prelude.{option_copied}
 use Rattle.std.proofs.lemmas.List.{take_all}
 use Rattle.uhura_worst.specs.Cost.{narrowings_cost}
-use Rattle.uhura_check.specs.Units.{with_units}
+use Rattle.uhura_check.specs.SideCosts.{with_units}
 use Rattle.uhura_check.proofs.Costs.{narrowings-more}
 use Rattle.uhura_check.proofs.cost.durations_cost.Goals as goal
 

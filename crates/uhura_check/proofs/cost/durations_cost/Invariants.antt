@@ -1,6 +1,6 @@
 use Rattle.std.proofs.Common.{◌≡◌, ◌≤◌, ◌*◌, take}
 use Rattle.uhura_worst.specs.Cost.{narrowings_cost}
-use Rattle.uhura_check.specs.Units.{with_units}
+use Rattle.uhura_check.specs.SideCosts.{with_units}
 use Rattle.uhura_check.proofs.cost.durations_cost.Given as goal
 
 -- the costs so far

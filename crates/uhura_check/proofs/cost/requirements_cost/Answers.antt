@@ -1,7 +1,7 @@
 use Rattle.std.proofs.Common.{ap, sym, ◌∙◌, sum_by, arith}
 use Rattle.std.specs.Prelude.{option_copied}
 use Rattle.std.proofs.lemmas.List.{take_all}
-use Rattle.uhura_check.specs.Units.{loosened_cost}
+use Rattle.uhura_check.specs.SideCosts.{loosened_cost}
 use Rattle.uhura_check.proofs.Costs.{sum-more}
 use Rattle.uhura_check.proofs.cost.requirements_cost.Goals as goal
 

@@ -1,5 +1,5 @@
 use Rattle.std.proofs.Common.{◌≡◌, ◌≤◌, ◌*◌, sum_by, take}
-use Rattle.uhura_check.specs.Units.{loosened_cost}
+use Rattle.uhura_check.specs.SideCosts.{loosened_cost}
 use Rattle.uhura_check.proofs.cost.requirements_cost.Given as goal
 
 -- the costs so far
