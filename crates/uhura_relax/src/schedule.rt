@@ -38,6 +38,13 @@ impl Schedule {
     {
         self.times.get(event as usize).copied()
     }
+
+    /// The times of all controllable events, in their order. It takes no memory.
+    pub fn into_times(self) -> Vec<u64>
+        ensures { result.items ≡ self }
+    {
+        self.times
+    }
 }
 
 /// How far each time is from 0.

@@ -26,6 +26,7 @@ use Rattle.uhura_search.specs.Known.{IsStoreFor, answer_of, IsReached}
 use Rattle.uhura_search.specs.Shut.{IsDear, IsShutBy, IsReason, IsNoted}
 use Rattle.uhura_search.specs.Answer.{shown_conflict, shown_reason, shown_leaf, shown_leaves}
 use Rattle.uhura_search.specs.Appended.{prefixes_of, AppendsCover}
+use Rattle.uhura_search.specs.Asked.{IsEntered, AreEntered}
 use Rattle.uhura_search.proofs.Showing.{IsKnownAt, known-at, stuck-shown, flow-shown, empty-shown}
 
 -- a denial is known by the name of the first that denies
@@ -90,3 +91,14 @@ leaves-show state store best notes sound named is_store reached appended = recor
         subst (λ (l : List (List Pick)). AreNoProperFronts l i.branch) (sym (same-prefixes state notes))
         (All-map (λ (prefix : List Pick). IsFrontOf prefix i.branch → prefix ≡ i.branch) (λ (note : LeafNote). note.prefix) notes
         (λ k d below begins. whole-by_reason state store named is_store i is.0 is.1 (get_or notes k d).prefix (get_or notes k d).reason sound is.2 is.3 (all k d below) begins))
+
+-- what a leaf was learned of is an entry
+entered-by : (state : State) (store : Stored) (best : Option Incumbent) (prefix : List Pick) (reason : LeafReason) → IsReason state store best prefix reason → IsEntered store reason
+entered-by state store best prefix (Denied name) is = tt
+entered-by state store best prefix Empty is = tt
+entered-by state store best prefix (LearnedOf c) is = record { key = is.key; entry = c; there = is.applies.there; kind = refl; units = refl }
+
+pub leaves-entered : (state : State) (store : Stored) (best : Option Incumbent) (notes : List LeafNote) → AppendsCover state.plan.choices (IsNoted state store best) ([] ∷ []) [] notes → AreEntered store notes
+leaves-entered state store best notes appended = λ k d below.
+    let each : All (IsNoted state store best) notes = subst (λ (l : List LeafNote). All (IsNoted state store best) l) (sym appended.shape) appended.each in
+    entered-by state store best (get_or notes k d).prefix (get_or notes k d).reason (each k d below)

@@ -84,10 +84,10 @@ proper-not_enough plan best prefix value is is_branch (inr begins) other enough 
     other (omega (arith, few, whole, long))
 
 -- what a test of two integers says
-lt-true : (a b : ℤ) → int_lt a b ≡ true → a <ℤ b
+pub lt-true : (a b : ℤ) → int_lt a b ≡ true → a <ℤ b
 lt-true a b is = by_lt_z {P = a <ℤ b} a b (λ less. less) (λ least. grind (arith, ints, nat_tests))
 
-lt-false : (a b : ℤ) → int_lt a b ≡ false → b ≤ℤ a
+pub lt-false : (a b : ℤ) → int_lt a b ≡ false → b ≤ℤ a
 lt-false a b is = by_lt_z {P = b ≤ℤ a} a b (λ less. grind (arith, ints, nat_tests)) (λ least. least)
 
 le-true : (a b : ℤ) → int_le a b ≡ true → a ≤ℤ b

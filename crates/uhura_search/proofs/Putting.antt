@@ -1,7 +1,8 @@
 -- Edges that are taken out of a flow or put into it, place by place.
-use Rattle.std.proofs.Common.{◌≡◌, ◌≢◌, ℕ, ◌+◌, ◌<◌, ◌≤◌, Bool, true, false, List, length, set, Option, None, Some, inl, inr, refl, sym, ap, subst, ◌∙◌, arith, get_or-set_same, get_or-set_other}
-use Rattle.std.specs.Prelude.{◌-◌, ◌^◌, min, if◌then◌else◌}
+use Rattle.std.proofs.Common.{◌≡◌, ◌≢◌, ℕ, ◌+◌, ◌<◌, ◌≤◌, Bool, true, false, List, length, get_or, set, Option, None, Some, inl, inr, refl, sym, ap, subst, ◌∙◌, arith, get_or-set_same, get_or-set_other}
+use Rattle.std.specs.Prelude.{◌-◌, ◌^◌, min, if◌then◌else◌, IsSome, Contains}
 use Rattle.std.proofs.Math.ListN.{get_or-eq_default}
+use Rattle.std.proofs.lemmas.List.{get_or_default}
 use Rattle.std.proofs.lemmas.Bool.{cases_lt, cases_eq}
 use Rattle.uhura_net.specs.declared.edge.Edge.{Edge}
 use Rattle.uhura_net.specs.Edges.{Edges}
@@ -21,28 +22,47 @@ use Rattle.uhura_plan.specs.declared.key.EdgeKey.{EdgeKey}
 use Rattle.uhura_net.specs.Place.{place_number}
 use Rattle.uhura_veto.specs.State.{State}
 use Rattle.uhura_worst.specs.Filled.{IsTableOf}
-use Rattle.uhura_search.specs.Moving.{AreAmong, HasAll, is_loose_at, put_at, HasMarks, is_marked, is_marked_at, marked_edges, active_edges}
+use Rattle.uhura_search.specs.Moving.{AreAmong, AreListed, HasAll, is_loose_at, put_at, HasMarks, is_marked, is_marked_at, marked_edges, active_edges}
 use Rattle.uhura_search.specs.declared.moving.Moved.{Moved}
 use Rattle.uhura_search.specs.declared.moving.Moved.TheVariants.{Holds, Stuck}
 use Rattle.uhura_search.specs.Moving.{IsUnsettled, IsStuckAt, IsStuckAmong, HasPutIn, HasMoved, IsPutIn, IsMoved}
 
--- the places so far have none but the wanted edges
-abbrev pub AreAmongBelow : ℕ → Edges → Edges → Type 0
-AreAmongBelow number few all = (place : ℕ) → place < number → HasAll few all place
+-- the listed places so far have none but the wanted edges
+abbrev pub AreAmongSo : ℕ → List ℕ → Edges → Edges → Type 0
+AreAmongSo index places few all = (k d : ℕ) → k < index → k < length places → HasAll few all (get_or places k d)
 
--- the places so far of one kind have the wanted edges
-abbrev pub AreThereBelow : ℕ → Bool → Edges → Edges → Type 0
-AreThereBelow number loose held wanted = (place : ℕ) → place < number → is_loose_at place ≡ loose → HasAll wanted held place
+-- the listed places so far of one kind have the wanted edges
+abbrev pub AreThereSo : ℕ → List ℕ → Bool → Edges → Edges → Type 0
+AreThereSo index places loose held wanted = (k d : ℕ) → k < index → k < length places → is_loose_at (get_or places k d) ≡ loose → HasAll wanted held (get_or places k d)
+
+-- what holds of the places so far and of the next one holds of one more
+so-more : (P : ℕ → Type 0) (places : List ℕ) (index : ℕ) → index < length places → ((k d : ℕ) → k < index → k < length places → P (get_or places k d)) → P (get_or places index 0) →
+    (k d : ℕ) → k < index + 1 → k < length places → P (get_or places k d)
+so-more P places index inside before own k d below within =
+    elim (cases_lt k index) [
+      | inl less ↦ before k d less within
+      | inr more ↦
+          let same : k ≡ index = omega (arith, below, more) in
+          subst P (ap (λ (n : ℕ). get_or places n 0) (sym same) ∙ get_or_default places k 0 d within) own
+    ]
 
 -- one place more, where it has a wanted edge or none
-pub among-more : (number : ℕ) (old new wanted : Edges) → AreAmongBelow number old wanted →
-    ((place : ℕ) → place ≢ number → new place ≡ old place) → HasAll new wanted number → AreAmongBelow (number + 1) new wanted
-among-more number old new wanted before others own place below edge is =
-    elim (cases_lt place number) [
-      | inl less ↦ before place less edge (sym (others place (λ same. omega (arith, less, same))) ∙ is)
-      | inr more ↦
-          let same : place ≡ number = omega (arith, below, more) in
-          subst (HasAll new wanted) (sym same) own edge is
+pub among-more : (places : List ℕ) (index : ℕ) (old new wanted : Edges) → index < length places → AreAmongSo index places old wanted →
+    ((place : ℕ) → place ≢ get_or places index 0 → new place ≡ old place) → HasAll new wanted (get_or places index 0) → AreAmongSo (index + 1) places new wanted
+among-more places index old new wanted inside before others own =
+    so-more (HasAll new wanted) places index inside
+    (λ k d below within. elim (cases_eq (get_or places k d) (get_or places index 0)) [
+      | inl same ↦ subst (HasAll new wanted) (sym same) own
+      | inr apart ↦ λ edge is. before k d below within edge (sym (others (get_or places k d) apart) ∙ is)
+    ])
+    own
+
+-- and all have none but those of the table
+pub present-more : (place : ℕ) (old new table wanted : Edges) → AreAmong old table → ((other : ℕ) → other ≢ place → new other ≡ old other) → HasAll new wanted place → HasAll wanted table place → AreAmong new table
+present-more place old new table wanted present others own among other edge is =
+    elim (cases_eq other place) [
+      | inl same ↦ subst (HasAll new table) (sym same) (λ e there. among e (own e there)) edge is
+      | inr apart ↦ present other edge (sym (others other apart) ∙ is)
     ]
 
 -- what is put where nothing is, or only what is wanted, is there, and wanted
@@ -81,15 +101,11 @@ put-there place old new wanted among own edge is = at (old place) refl
         own ∙ ap (λ (h : Option Edge). put_at h (wanted place)) some ∙ both
 
 -- one place more
-pub there-more : (number : ℕ) (loose : Bool) (old new wanted : Edges) → AreThereBelow number loose old wanted → AreAmong old new →
-    (is_loose_at number ≡ loose → HasAll wanted new number) → AreThereBelow (number + 1) loose new wanted
-there-more number loose old new wanted before kept own place below kind edge is =
-    elim (cases_lt place number) [
-      | inl less ↦ kept place edge (before place less kind edge is)
-      | inr more ↦
-          let same : place ≡ number = omega (arith, below, more) in
-          subst (λ (p : ℕ). is_loose_at p ≡ loose → HasAll wanted new p) (sym same) own kind edge is
-    ]
+pub there-more : (places : List ℕ) (index : ℕ) (loose : Bool) (old new wanted : Edges) → index < length places → AreThereSo index places loose old wanted → AreAmong old new →
+    (is_loose_at (get_or places index 0) ≡ loose → HasAll wanted new (get_or places index 0)) → AreThereSo (index + 1) places loose new wanted
+there-more places index loose old new wanted inside before kept own =
+    so-more (λ (p : ℕ). is_loose_at p ≡ loose → HasAll wanted new p) places index inside
+    (λ k d below within kind edge is. kept (get_or places k d) edge (before k d below within kind edge is)) own
 
 -- two among each other are the same
 pub same-edge : (few all : Option Edge) → ((edge : Edge) → few ≡ Some edge → all ≡ Some edge) → ((edge : Edge) → all ≡ Some edge → few ≡ Some edge) → few ≡ all
@@ -161,32 +177,30 @@ marked-active table plan picks marks has place = ap (λ (b : Bool). if b then ed
     by (item.Requirement slot) = has slot
     by (item.Uncertain d) = refl
 
--- there is no edge behind the last place
-outside : (edges : List (Option Edge)) → length edges ≡ PLACES → (place : ℕ) (edge : Edge) → PLACES ≤ place → edges_of edges place ≡ Some edge → ⊥
-outside edges places place edge behind is =
-    let none : edges_of edges place ≡ None = get_or-eq_default edges None (omega (arith, places, behind)) in
-    let both : Some edge ≡ None = sym is ∙ none in
-    cc
-
--- all places
-pub among-all : (held : List (Option Edge)) (wanted : Edges) → length held ≡ PLACES → AreAmongBelow PLACES (edges_of held) wanted → AreAmong (edges_of held) wanted
-among-all held wanted places below place edge is =
-    elim (cases_lt place PLACES) [
-      | inl less ↦ below place less edge is
-      | inr more ↦ absurd (outside held places place edge more is)
-    ]
-
-pub there-all : (table : List (Option Edge)) (marks : List Bool) (loose : Bool) (held : Edges) → length table ≡ PLACES → AreThereBelow PLACES loose held (marked_edges table marks) →
-    (place : ℕ) → is_loose_at place ≡ loose → HasAll (marked_edges table marks) held place
-there-all table marks loose held places below place kind edge is =
-    elim (cases_lt place PLACES) [
-      | inl less ↦ below place less kind edge is
-      | inr more ↦ absurd (outside table places place edge more (by (is_marked_at marks place) is))
-    ]
+-- a marked edge stands in the table
+pub marked-table : (table : List (Option Edge)) (marks : List Bool) → AreAmong (marked_edges table marks) (edges_of table)
+marked-table table marks place edge is = by (is_marked_at marks place) is
   where
     by : (b : Bool) → (if b then edges_of table place else None) ≡ Some edge → edges_of table place ≡ Some edge
     by true there = there
     by false there = absurd (let never : ⊥ = cc in never)
+
+-- what holds of all listed places holds of each place that has an edge in the table
+listed-all : (P : ℕ → Type 0) (table : List (Option Edge)) (places : List ℕ) (index : ℕ) → AreListed places table → length places ≤ index →
+    ((k d : ℕ) → k < index → k < length places → P (get_or places k d)) → (place : ℕ) (edge : Edge) → edges_of table place ≡ Some edge → P place
+listed-all P table places index listed all have place edge is =
+    let there : Contains places place = listed.each place (subst (λ (o : Option Edge). IsSome o) (sym is) refl) in
+    subst P there.2 (have there.0 place (omega (arith, all, there.1)) there.1)
+
+-- all places
+pub among-all : (table : List (Option Edge)) (places : List ℕ) (index : ℕ) (held wanted : Edges) → AreListed places table → length places ≤ index → AreAmong held (edges_of table) →
+    AreAmongSo index places held wanted → AreAmong held wanted
+among-all table places index held wanted listed all present so place edge is = listed-all (HasAll held wanted) table places index listed all so place edge (present place edge is) edge is
+
+pub there-all : (table : List (Option Edge)) (places : List ℕ) (index : ℕ) (marks : List Bool) (loose : Bool) (held : Edges) → AreListed places table → length places ≤ index →
+    AreThereSo index places loose held (marked_edges table marks) → (place : ℕ) → is_loose_at place ≡ loose → HasAll (marked_edges table marks) held place
+there-all table places index marks loose held listed all so place kind edge is =
+    listed-all (λ (p : ℕ). is_loose_at p ≡ loose → HasAll (marked_edges table marks) held p) table places index listed all so place edge (marked-table table marks place edge is) kind edge is
 
 -- what was taken out, and put in twice
 pub put-active : (a b c d : FlowState) (one other : Edges) (moved : Moved) → ((place : ℕ) → one place ≡ other place) → IsUnsettled a b → HasPutIn b c one true → IsPutIn c d one false moved → IsMoved a d other moved

@@ -45,7 +45,7 @@ key-stands place below =
     subst (λ key. StandsAt place key) (sym same) found.1
 
 -- the slot of a key is that of its item
-slot-item : (key : EdgeKey) → slot_of key ≡ slot_of_item (item_of key)
+pub slot-item : (key : EdgeKey) → slot_of key ≡ slot_of_item (item_of key)
 slot-item (Loose key) = refl
 slot-item (Firm key) = refl
 slot-item (Steep key) = refl

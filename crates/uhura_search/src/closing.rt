@@ -1,45 +1,72 @@
 //! The walk over branches that closes them all.
-ghost use Rattle.std.specs.Prelude.{◌≡◌, List, IfOk, OnOk};
-ghost use Rattle.uhura_plan.specs.Lists.{Lists};
-ghost use Rattle.uhura_choice.specs.declared.prefix.Pick.{Pick};
+ghost use Rattle.std.specs.Prelude.{IfOk, IfSome, OnOk};
 ghost use Rattle.uhura_choice.specs.Branch.{IsBranch};
 ghost use Rattle.uhura_choice.specs.Order.{IsFrontOf};
+ghost use Rattle.uhura_veto.specs.State.{State};
+ghost use Rattle.uhura_search.specs.Shut.{IsShut};
 ghost use Rattle.uhura_search.specs.Closed.{AreAllShut};
+ghost use Rattle.uhura_search.specs.Asked.{LearnsSome, LearnsOrStops};
+ghost use Rattle.uhura_search.specs.Learning.{IsReady, IsReachedAt, Closes};
 
-use std::alloc::AllocError;
+use crate::fronts::shut_front;
+use crate::incumbent::Incumbent;
+use crate::learning::Learning;
+use crate::trying::{copy_of, learn};
+use std::alloc::{AllocError, Global};
 use uhura_choice::{Branch, Prefix, first_branch};
 use uhura_plan::Plan;
 use uhura_shows::next_branch_behind;
+use uhura_veto::Vetoes;
 
-/// What closes branches.
-pub(crate) trait Closing {
-    /// Which prefixes are closed, and what it needs of the plan.
-    ghost closes: { Self → List Pick → Type 0 };
-
-    ghost is_ready: { Self → Lists → Type 0 };
-
-    /// Closes the branch, by a prefix that begins it. What is closed stays so.
-    fn close(&mut self, plan: &Plan, branch: &Branch) -> Result<Prefix, AllocError>
-        requires branch { IsBranch plan.now.choices branch.now }
-        requires ready { is_ready self.old plan.now }
-        ensures begins { IfOk result (λ prefix. IsFrontOf prefix branch.now) }
-        ensures closed { IfOk result (λ prefix. closes self.new prefix) }
-        ensures kept { OnOk result ((prefix : List Pick) → closes self.old prefix →
-            closes self.new prefix) }
-        ensures ready { OnOk result (is_ready self.new plan.now) };
+/// Closes a branch: by its shortest prefix that is shut, or, where none is, by itself, when it was learned of.
+fn close(
+    learning: &mut Learning,
+    best: &mut Option<Incumbent>,
+    alloc: Global,
+    plan: &Plan,
+    vetoes: &Vetoes,
+    branch: &Branch,
+) -> Result<Prefix, AllocError>
+    requires is_branch { IsBranch plan.now.choices branch.now }
+    requires ready { IsReady (record { plan = plan.now; vetoes = vetoes.now }) learning.old }
+    requires reached { let state : State = record { plan = plan.now; vetoes = vetoes.now } in
+        IfSome best.old (IsReachedAt state) }
+    ensures begins { IfOk result (λ prefix. IsFrontOf prefix branch.now) }
+    ensures closes { let state : State = record { plan = plan.now; vetoes = vetoes.now } in
+        IfOk result (Closes state learning.old learning.new best.old best.new) }
+    ensures stops { LearnsOrStops plan.now.choices learning.old learning.new }
+    ensures ready { IsReady (record { plan = plan.now; vetoes = vetoes.now }) learning.new }
+{
+    if let Some(prefix) = shut_front(plan, vetoes, &learning.store, best, branch) {
+        return Ok(prefix);
+    }
+    learn(learning, best, alloc, plan, vetoes, branch)?;
+    Ok(copy_of(plan, branch))
 }
 
-/// Closes the branches in order. All branches of a prefix that is closed are passed at once.
-pub(crate) fn close_all<C: Closing>(plan: &Plan, closing: &mut C) -> Result<(), AllocError>
-    requires { C.is_ready closing.old plan.now }
-    ensures closed { OnOk result (AreAllShut plan.now.choices (C.closes closing.new)) }
-    ensures ready { OnOk result (C.is_ready closing.new plan.now) }
+/// Closes the branches in order, and answers the best of them, if anything is allowed in any. All branches of a prefix
+/// that is shut are passed at once.
+pub(crate) fn close_all(
+    learning: &mut Learning,
+    alloc: Global,
+    plan: &Plan,
+    vetoes: &Vetoes,
+) -> Result<Option<Incumbent>, AllocError>
+    requires { IsReady (record { plan = plan.now; vetoes = vetoes.now }) learning.old }
+    ensures reached { let state : State = record { plan = plan.now; vetoes = vetoes.now } in
+        IfOk result (λ best. IfSome best (IsReachedAt state)) }
+    ensures closed { let state : State = record { plan = plan.now; vetoes = vetoes.now } in
+        IfOk result (λ best. AreAllShut plan.now.choices (IsShut state learning.new.store best)) }
+    ensures learns { OnOk result (LearnsSome plan.now.choices learning.old learning.new) }
+    ensures stops { LearnsOrStops plan.now.choices learning.old learning.new }
+    ensures ready { IsReady (record { plan = plan.now; vetoes = vetoes.now }) learning.new }
 {
+    let mut best = None;
     let mut branch = first_branch(plan);
     'walk: loop {
-        let prefix = closing.close(plan, &branch)?;
+        let prefix = close(learning, &mut best, alloc, plan, vetoes, &branch)?;
         let Some(next) = next_branch_behind(plan, &prefix) else {
-            return Ok(());
+            return Ok(best);
         };
         branch = next;
     }

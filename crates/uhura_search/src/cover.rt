@@ -8,6 +8,7 @@ ghost use Rattle.uhura_search.specs.Known.{IsStoreFor, IsReached, answer_of};
 ghost use Rattle.uhura_search.specs.Shut.{IsSmallCost, IsShut, IsNoted};
 ghost use Rattle.uhura_search.specs.Closed.{AreAllShut, NoneAbove};
 ghost use Rattle.uhura_search.specs.Appended.{AppendsCover};
+ghost use Rattle.uhura_search.specs.Asked.{AreEntered};
 
 use crate::LeafNote;
 use crate::incumbent::Incumbent;
@@ -19,6 +20,7 @@ use uhura_plan::Plan;
 use uhura_veto::Vetoes;
 
 /// Leaves that show the best so far. Each branch has a prefix that is shut, and the leaves are the shortest of these.
+/// What they were learned of are entries of the store.
 pub(crate) fn leaves_of(
     alloc: Global,
     plan: &Plan,
@@ -32,9 +34,10 @@ pub(crate) fn leaves_of(
     requires reached { IsReached (record { plan = plan.now; vetoes = vetoes.now }) best.now }
     requires closed { AreAllShut plan.now.choices
         (IsShut (record { plan = plan.now; vetoes = vetoes.now }) store.now best.now) }
-    ensures { let state : State = record { plan = plan.now; vetoes = vetoes.now } in
+    ensures shows { let state : State = record { plan = plan.now; vetoes = vetoes.now } in
         IfOk result (λ leaves.
         Shows state (answer_of best.now) (shown_leaves state leaves.items)) }
+    ensures entered { IfOk result (λ leaves. AreEntered store.now leaves.items) }
 {
     // By their types the plan and the vetoes are sound.
     let _ = (plan.choices(), vetoes.count());

@@ -4,15 +4,26 @@
 //! A flow is moved from branch to branch (`specs/Moving.antt`).
 #![tactic(auto)]
 
+mod adding;
+mod ask;
 mod closing;
 mod cover;
 mod fronts;
+mod guards;
 mod incumbent;
+mod keeping;
 pub mod laws;
 mod leaf;
+mod learning;
 pub mod moving;
 mod outcome;
+mod searcher;
 mod shut;
+mod solving;
+mod stepping;
+mod taking;
+mod trying;
 
 pub use leaf::{LeafNote, LeafReason};
 pub use outcome::Outcome;
+pub use searcher::Searcher;

@@ -1,5 +1,5 @@
 //! From branch to branch: a flow gets the edges that are active after some first picks.
-ghost use Rattle.std.specs.Prelude.{◌≡◌, ◌<◌, ℕ, false, IfSome, List, Option, length, replicate};
+ghost use Rattle.std.specs.Prelude.{◌≡◌, ◌<◌, ℕ, false, IfSome, OnOk, List, Option, length, replicate};
 ghost use Rattle.uhura_plan.specs.declared.limits.TheConstants.{REQUIREMENTS};
 ghost use Rattle.uhura_flow.specs.Flow.{flow_edges, IsFlow, IsFlowEdge};
 ghost use Rattle.uhura_choice.specs.declared.prefix.Pick.{Pick};
@@ -12,12 +12,13 @@ ghost use Rattle.uhura_veto.specs.State.{State};
 ghost use Rattle.uhura_worst.specs.Filled.{IsTableOf};
 ghost use Rattle.uhura_dual.specs.Settled.{AreSettled, AreAllSettled};
 ghost use Rattle.uhura_search.specs.Moving.{HasMarks, is_marked, is_loose_at, marked_edges, active_edges, AreAmong};
-ghost use Rattle.uhura_search.specs.Moving.{HasFlowBounds, IsTakenOut, HasTakenAt, IsPutIn, IsPutAt, IsMoved};
+ghost use Rattle.uhura_search.specs.Moving.{AreListed, HasFlowBounds, IsTakenOut, HasTakenAt, IsPutIn, IsPutAt, IsMoved};
 ghost use Rattle.uhura_net.specs.Place.{place_number, HasPlace};
 ghost use Rattle.uhura_net.specs.Circulation.{edges_of};
 ghost use Rattle.uhura_worst.specs.Edges.{item_of};
 ghost use Rattle.uhura_dual.specs.Settled.{key_at};
 
+use std::alloc::AllocError;
 use uhura_choice::{Prefix, holds};
 use uhura_flow::{Flow, Settled};
 use uhura_net::{Edge, EdgeTable, PLACES, Place, key_of};
@@ -31,18 +32,40 @@ pub enum Moved {
     Stuck,
 }
 
+/// Lists the places that have an edge in the table, in room that is kept.
+pub(crate) fn list_places(table: &EdgeTable, places: &mut Vec<u32>) -> Result<(), AllocError>
+    ensures { OnOk result (AreListed places.new.items table.now) }
+{
+    places.clear();
+    for number in 0..PLACES as u32 {
+        if table.get(Place(number)).is_some() {
+            places.push(number)?;
+        }
+    }
+    Ok(())
+}
+
 /// Brings a flow to exactly the edges of the table that are active after the picks: first those go that are to go,
-/// then the loose ones come, and then the others. It stops at the first edge that the flow is stuck at.
-pub(crate) fn move_to(flow: &mut Flow, table: &EdgeTable, plan: &Plan, prefix: &Prefix) -> Moved
-    requires { HasFlowBounds table.now }
+/// then the loose ones come, and then the others. It stops at the first edge that the flow is stuck at. The places are
+/// those that have an edge, and no others are looked at.
+pub(crate) fn move_to(
+    flow: &mut Flow,
+    table: &EdgeTable,
+    places: &[u32],
+    plan: &Plan,
+    prefix: &Prefix,
+) -> Moved
+    requires bounds { HasFlowBounds table.now }
+    requires listed { AreListed places.now table.now }
+    requires present { AreAmong (flow_edges flow.old) (edges_of table.now) }
     ensures { IsMoved flow.old flow.new (active_edges table.now plan.now prefix.now) result }
 {
     let mut active = [false; REQUIREMENTS as usize];
     mark_active(&mut active, plan, prefix);
-    take_out(flow, table, &active);
-    match put_in(flow, table, &active, true) {
+    take_out(flow, table, places, &active);
+    match put_in(flow, table, places, &active, true) {
         Moved::Stuck => Moved::Stuck,
-        Moved::Holds => put_in(flow, table, &active, false),
+        Moved::Holds => put_in(flow, table, places, &active, false),
     }
 }
 
@@ -113,20 +136,22 @@ fn table_edge(table: &EdgeTable, place: Place, key: EdgeKey) -> Option<Edge>
 }
 
 /// Takes out each edge that isn't the one that the flow is to have there.
-fn take_out(flow: &mut Flow, table: &EdgeTable, active: &[bool])
+fn take_out(flow: &mut Flow, table: &EdgeTable, places: &[u32], active: &[bool])
     requires slots { length active.now ≡ REQUIREMENTS }
     requires bounds { HasFlowBounds table.now }
+    requires listed { AreListed places.now table.now }
+    requires present { AreAmong (flow_edges flow.old) (edges_of table.now) }
     ensures { IsTakenOut flow.old flow.new (marked_edges table.now active.now) }
 {
-    for number in 0..PLACES as u32 {
-        let place = Place(number);
+    for number in places {
+        let place = Place(*number);
         let edge = wanted(table, active, place);
         take_at(flow, place, edge);
     }
 }
 
 /// Takes the edge out of a place, unless it is the given one.
-fn take_at(flow: &mut Flow, place: Place, edge: Option<Edge>)
+pub(crate) fn take_at(flow: &mut Flow, place: Place, edge: Option<Edge>)
     requires { place.0 < PLACES }
     ensures { HasTakenAt flow.old flow.new place.0 edge }
 {
@@ -137,14 +162,15 @@ fn take_at(flow: &mut Flow, place: Place, edge: Option<Edge>)
 }
 
 /// Puts in the loose edges that the flow is to have and hasn't, or those that aren't loose.
-fn put_in(flow: &mut Flow, table: &EdgeTable, active: &[bool], loose: bool) -> Moved
+fn put_in(flow: &mut Flow, table: &EdgeTable, places: &[u32], active: &[bool], loose: bool) -> Moved
     requires slots { length active.now ≡ REQUIREMENTS }
     requires bounds { HasFlowBounds table.now }
+    requires listed { AreListed places.now table.now }
     requires among { AreAmong (flow_edges flow.old) (marked_edges table.now active.now) }
     ensures { IsPutIn flow.old flow.new (marked_edges table.now active.now) loose result }
 {
-    for number in 0..PLACES as u32 {
-        let place = Place(number);
+    for number in places {
+        let place = Place(*number);
         let edge = wanted(table, active, place);
         if is_loose(place) != loose {
             continue;

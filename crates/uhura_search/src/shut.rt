@@ -87,7 +87,7 @@ fn learned(store: &Store, key: usize) -> Result<Option<LeafReason>, AllocError>
 }
 
 /// Whether this value and the costs picked in the prefix are enough.
-fn is_dear(plan: &Plan, best: &Option<Incumbent>, prefix: &Prefix, value: i128) -> bool
+pub(crate) fn is_dear(plan: &Plan, best: &Option<Incumbent>, prefix: &Prefix, value: i128) -> bool
     requires prefix { IsPrefix plan.now.choices prefix.now }
     requires branch { IfSome best.now (λ i. IsBranch plan.now.choices i.branch) }
     requires small { IfSome best.now IsSmallCost }
@@ -132,7 +132,7 @@ fn is_as_long(one: &Prefix, other: &Prefix) -> bool
 }
 
 /// Whether the one value is less.
-fn is_less(one: i128, other: i128) -> bool
+pub(crate) fn is_less(one: i128, other: i128) -> bool
     ensures { result ≡ int_lt one other }
 {
     one < other

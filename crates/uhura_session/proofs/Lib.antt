@@ -1,13 +1,7 @@
-pub mod Ranks
-pub mod Places
-pub mod Followed
-pub mod ChosenFlags
-pub mod FirstCheapest
-pub mod Opening
-pub mod Unpriced
-pub mod BestBranch
 pub mod Conversing
+pub mod Kept
 pub mod AnswersEdits
+pub mod Asking
 pub mod ShowReplays
 pub mod Refusals
 pub mod SameVetoes

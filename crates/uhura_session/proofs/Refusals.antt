@@ -1,6 +1,7 @@
 -- A line is refused exactly where its answer begins as the line of an error.
-use Rattle.std.proofs.Common.{◌≡◌, ℕ, Bool, true, false, List, [], ◌∷◌, ◌++◌, Option, Some, None, Result, Ok, Err, inl, inr, refl, sym, ap, ◌∙◌, append_assoc}
+use Rattle.std.proofs.Common.{◌≡◌, ℕ, Bool, true, false, List, [], ◌∷◌, ◌++◌, Option, Some, None, Result, Ok, Err, refl, sym, ap, ◌∙◌, append_assoc}
 use Rattle.std.specs.Prelude.{codes, flat_map}
+use Rattle.uhura_plan.specs.Lists.{Lists}
 use Rattle.uhura_veto.specs.State.{State}
 use Rattle.uhura_line.specs.declared.command.Command.{Command}
 use Rattle.uhura_line.specs.declared.command.Command.TheVariants as command
@@ -10,7 +11,8 @@ use Rattle.uhura_command.specs.Apply.{refusal_of}
 use Rattle.uhura_command.specs.Errors.{begins_as_error}
 use Rattle.uhura_command.specs.Script.{commands_of, command_line}
 use Rattle.uhura_command.proofs.ErrorLines.{line_error, state_error, command_no_error}
-use Rattle.uhura_session.specs.Answers.{Reply, Refuses, Tells, IsProposed, AnswersQuestion, AnswersEdit, AnswersCommand, AnswersParsed, Answers, is_unpriced_plan, shown_text}
+use Rattle.uhura_cert.specs.declared.document.Proposal.{Proposal as Stated}
+use Rattle.uhura_session.specs.Answers.{Reply, Refuses, Tells, IsProposed, AnswersEdit, AnswersCommand, AnswersParsed, Answers, answer_text, shown_text}
 
 -- the answer says by its text whether its line was refused
 abbrev pub IsTold : Reply → Type 0
@@ -32,13 +34,13 @@ lines_no_error (c ∷ cs) =
 shown_no_error : (state : State) (text : List ℕ) → text ≡ shown_text state → begins_as_error text ≡ false
 shown_no_error state text is = ap begins_as_error is ∙ lines_no_error (commands_of state)
 
-proposal_no_error : (state : State) (text : List ℕ) → IsProposed state text → begins_as_error text ≡ false
-proposal_no_error state text (inl best) = ap begins_as_error best.is_text
-proposal_no_error state text (inr nothing) = ap begins_as_error nothing.1
+-- the first line of an answer says what it is
+answer_no_error : (plan : Lists) (answer : Option Stated) → begins_as_error (answer_text plan answer) ≡ false
+answer_no_error plan None = refl
+answer_no_error plan (Some p) = refl
 
-question_told : (state : State) (reply : Reply) (can : Bool) → AnswersQuestion can state reply → IsTold reply
-question_told state reply true answers = answer_told (IsProposed state) state reply (proposal_no_error state) answers
-question_told state reply false answers = refusal_told _ state reply (λ text is. ap begins_as_error is) answers
+proposal_no_error : (state : State) (text : List ℕ) → IsProposed state text → begins_as_error text ≡ false
+proposal_no_error state text is = ap begins_as_error is.is_text ∙ answer_no_error state.plan is.answer
 
 edit_told : (c : Command) (state : State) (reply : Reply) (first : Option StateRefusal) → AnswersEdit first c state reply → IsTold reply
 edit_told c state reply None accepts = accepts.granted ∙ sym (ap begins_as_error accepts.says)
@@ -47,7 +49,7 @@ edit_told c state reply (Some refusal) refuses = refusal_told _ state reply (sta
 command_told : (c : Command) (state : State) (reply : Reply) → AnswersCommand c state reply → IsTold reply
 unfolding AnswersCommand
 command_told command.Show state reply answers = answer_told _ state reply (shown_no_error state) answers
-command_told command.Propose state reply answers = question_told state reply (is_unpriced_plan state.plan) answers
+command_told command.Propose state reply answers = answer_told (IsProposed state) state reply (proposal_no_error state) answers
 command_told command.Prove state reply answers = refusal_told _ state reply (λ text is. ap begins_as_error is) answers
 command_told c state reply answers = edit_told c state reply (refusal_of state c) answers
 

@@ -1,6 +1,6 @@
 -- Vetoes that are spelled alike deny the same picks and cap the same sides, whatever the slots of requirements.
 use Rattle.std.proofs.Common.{◌≡◌, ℕ, ◌<◌, Bool, true, false, List, [], ◌∷◌, length, map, Option, None, Some, slice_get, Contains, All, option_map, is_some, refl, sym, ap, subst, ◌∙◌, arith}
-use Rattle.std.specs.Prelude.{nat_eq}
+use Rattle.std.specs.Prelude.{nat_eq, ◌==◌}
 use Rattle.std.specs.Option.{option_map_or}
 use Rattle.std.proofs.lemmas.Bool.Decides.{Decides-eqb}
 use Rattle.std.proofs.lemmas.List.{length-map}
@@ -25,14 +25,17 @@ use Rattle.uhura_veto.specs.Denial.{denies, is_denied}
 use Rattle.uhura_veto.specs.Room.{caps_on}
 use Rattle.uhura_veto.specs.State.{State}
 use Rattle.uhura_veto.specs.Vetoes.{IsVetoOf, IsItemOf, AreVetoesOf}
-use Rattle.uhura_worst.proofs.FirstItems.{requirement_in-member}
+use Rattle.uhura_worst.proofs.FirstItems.{passes, requirement_in-member}
 use Rattle.uhura_worst.specs.Slots.{IsSameButForSlots}
 use Rattle.uhura_worst.proofs.SoundItems.{Contains-found, Contains-at}
 use Rattle.uhura_command.specs.Script.{name_at, guard_names, item_name, veto_command}
 use Rattle.uhura_command.specs.Replay.{IsSameUpToSlots, in_slot}
 use Rattle.uhura_command.proofs.Naming.{found_at, name_there}
 use Rattle.uhura_command.proofs.Spelling.{Begins, spells}
-use Rattle.uhura_session.proofs.Places.{slot-found}
+
+-- a requirement that is found in a slot has the slot
+slot-found : (plan : Lists) (slot : ℕ) (r : Requirement) → requirement_in plan slot ≡ Some r → r.slot ≡ slot
+slot-found plan slot r found = (Decides-eqb r.slot slot).0 (passes (λ (q : Requirement). q.slot == slot) plan.requirements r found)
 
 -- literals that are one by one the same are the same
 same_somes : (l k : List Literal) → map (λ x. Some x) l ≡ map (λ x. Some x) k → l ≡ k

@@ -1,14 +1,7 @@
 -- What is answered to a line, and the state after it.
-use Rattle.std.specs.Prelude.{◌≡◌, ℕ, ◌⊎◌, ◌&&◌, Bool, true, false, List, [], ◌∷◌, ◌++◌, None, Some, Option, is_none, Result, Ok, Err, codes}
-use Rattle.std.specs.List.{list_all}
+use Rattle.std.specs.Prelude.{◌≡◌, ℕ, Bool, true, false, List, [], ◌∷◌, ◌++◌, flat_map, None, Some, Option, Result, Ok, Err, codes}
 use Rattle.uhura_plan.specs.Lists.{Lists}
-use Rattle.uhura_plan.specs.Sides.{loosening_rate, rate_of}
-use Rattle.uhura_plan.specs.declared.key.Side.{Side}
-use Rattle.uhura_plan.specs.declared.key.Side.TheVariants.{Lower, Upper}
-use Rattle.uhura_plan.specs.declared.price.Rate.{Rate}
 use Rattle.uhura_veto.specs.State.{State}
-use Rattle.uhura_worst.specs.Proposal.{Proposal}
-use Rattle.uhura_worst.specs.Best.{IsBest, AllowsNothing}
 use Rattle.uhura_line.specs.declared.command.Command.{Command}
 use Rattle.uhura_line.specs.declared.command.Command.TheVariants as command
 use Rattle.uhura_line.specs.declared.refusal.LineRefusal.{LineRefusal}
@@ -18,15 +11,18 @@ use Rattle.uhura_command.specs.declared.state.refusal.StateRefusal.{StateRefusal
 use Rattle.uhura_command.specs.Apply.{refusal_of, Applies}
 use Rattle.uhura_command.specs.Errors.{IsLineError, IsStateError, unbuilt_text}
 use Rattle.uhura_command.specs.Script.{script}
-use Rattle.uhura_cert.specs.ProposalText.{proposal_text}
+use Rattle.uhura_item.specs.Item.{item_line}
+use Rattle.uhura_cert.specs.declared.document.Proposal.{Proposal as Stated}
+use Rattle.uhura_cert.specs.Items.{answer_items}
+use Rattle.uhura_answer.specs.Stated.{IsBestAnswer}
 
 -- an accepted edit is answered `ok`
 abbrev pub accepted_text : List ℕ
 accepted_text = line_of (codes "ok" ∷ [])
 
--- what is answered where nothing is allowed
-abbrev pub nothing_text : List ℕ
-nothing_text = line_of (codes "none" ∷ [])
+-- what is answered to a question: the lines of a proposal, or `none`
+abbrev pub answer_text : Lists → Option Stated → List ℕ
+answer_text plan answer = flat_map item_line (answer_items plan answer)
 
 -- the answer to `show`: the canonical script, and a comment behind it
 abbrev pub shown_text : State → List ℕ
@@ -56,30 +52,11 @@ pub record Accepts (c : Command) (state : State) (reply : Reply) : Type 0 where
   pub granted : reply.refused ≡ false
   pub applies : Applies state c reply.next
 
--- neither of two sides has a rate
-abbrev pub is_rateless : (Side → Option Rate) → Bool
-is_rateless rates = is_none (rates Lower) && is_none (rates Upper)
-
--- a plan that can be asked so far: no side of a requirement has a price, and none of a duration a rate
-abbrev pub is_unpriced_plan : Lists → Bool
-is_unpriced_plan plan =
-    list_all (λ r. is_rateless (λ side. loosening_rate side r)) plan.requirements
-    && list_all (λ u. is_rateless (λ side. rate_of side u)) plan.uncertains
-
--- the text is that of a best proposal
-pub record IsBestText (state : State) (text : List ℕ) : Type 0 where
-  pub proposal : Proposal
-  pub best : IsBest state proposal
-  pub is_text : text ≡ proposal_text state.plan proposal
-
--- the answer to a question: a best proposal, or `none` exactly where nothing is allowed
-abbrev pub IsProposed : State → List ℕ → Type 0
-IsProposed state text = IsBestText state text ⊎ (AllowsNothing state × (text ≡ nothing_text))
-
--- what is answered to a question, by whether the plan can be asked
-abbrev pub AnswersQuestion : Bool → State → Reply → Type 0
-AnswersQuestion true state reply = Tells (IsProposed state) state reply
-AnswersQuestion false state reply = Refuses (λ text. text ≡ unbuilt_text) state reply
+-- the text is that of a best proposal, or `none` where nothing is allowed
+pub record IsProposed (state : State) (text : List ℕ) : Type 0 where
+  pub answer : Option Stated
+  pub best : IsBestAnswer state answer
+  pub is_text : text ≡ answer_text state.plan answer
 
 -- what is answered to an edit, by its first refusal: it is accepted where it has none
 abbrev pub AnswersEdit : Option StateRefusal → Command → State → Reply → Type 0
@@ -91,7 +68,7 @@ unfoldable pub AnswersCommand : Command → State → Reply → Type 0
 AnswersCommand command.Show state reply =
     Tells (λ text. text ≡ shown_text state) state reply
 AnswersCommand command.Propose state reply =
-    AnswersQuestion (is_unpriced_plan state.plan) state reply
+    Tells (IsProposed state) state reply
 AnswersCommand command.Prove state reply =
     Refuses (λ text. text ≡ unbuilt_text) state reply
 AnswersCommand c state reply = AnswersEdit (refusal_of state c) c state reply

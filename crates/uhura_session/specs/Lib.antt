@@ -1,8 +1,6 @@
 pub mod Answers
 pub mod Session
-pub mod Chosen
-pub mod Unpriced
-pub mod Branches
+pub mod Searching
 pub mod Transcript
 pub mod Line
 pub mod ReadsBack

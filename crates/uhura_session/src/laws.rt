@@ -1,13 +1,17 @@
-//! The laws of answers: what `show` answers is a script of the same state, an error is told by its text, and the
-//! slots of requirements change no answer.
-ghost use Rattle.std.specs.Prelude.{◌≡◌};
+//! The laws of answers: what `show` answers is a script of the same state, an error is told by its text, the slots of
+//! requirements change no answer, and an answer stands until an edit is accepted.
+ghost use Rattle.std.specs.Prelude.{◌≡◌, ◌⊎◌, ℕ, List, IsTrue, IsFalse};
+ghost use Rattle.uhura_plan.specs.Lists.{Lists};
 ghost use Rattle.uhura_veto.specs.State.{State};
 ghost use Rattle.uhura_worst.specs.Slots.{IsSameButForSlots};
 ghost use Rattle.uhura_command.specs.Replay.{IsSameUpToSlots};
 ghost use Rattle.uhura_command.specs.State.{IsSoundState};
+ghost use Rattle.uhura_search.specs.Revised.{IsRevised};
+ghost use Rattle.uhura_search.specs.Searcher.{Searched, IsSearcher};
 ghost use Rattle.uhura_session.specs.Answers.{shown_text};
 ghost use Rattle.uhura_session.specs.ReadsBack.{ShowsReadBack};
 ghost use Rattle.uhura_session.specs.Refused.{RefusalsAreErrors};
+ghost use Rattle.uhura_session.specs.Searching.{IsAnswered, Searches};
 
 /// The answer to `show`, read as a script by a new dialogue, makes the same state up to the slots of its
 /// requirements. Each line of it is accepted, or is the comment `# end`.
@@ -26,4 +30,15 @@ pub fn slots_change_no_answer()
     ensures shown { (a b : State) → IsSameUpToSlots a b → shown_text a ≡ shown_text b }
     ensures asked { (a b : State) → IsSoundState a → IsSoundState b → IsSameUpToSlots a b →
         IsSameButForSlots a b }
+{}
+
+/// After an answered question its answer stands. While it stands, no line but an accepted edit changes anything of
+/// the searcher, so a question that is asked again settles and pushes nothing. An accepted edit ends that.
+pub fn answers_stand_until_an_edit()
+    ensures stands { (old new : Searched) (plan : Lists) → IsAnswered old new plan →
+        IsTrue new.stands }
+    ensures kept { (state : State) (line : List ℕ) (old new : Searched) → IsTrue old.stands →
+        Searches state line old new → (new ≡ old) ⊎ IsRevised old new }
+    ensures edited { (old new : Searched) → IsSearcher old → IsRevised old new →
+        IsFalse new.stands }
 {}

@@ -1,14 +1,12 @@
-//! One dialogue: what is answered to a line, and the state after it.
+//! One dialogue: what is answered to a line, and the state after it (`specs/Answers.antt`). What was learned of a
+//! plan is kept while it is edited (`specs/Searching.antt`).
 #![tactic(auto)]
 
 mod answer;
-mod branches;
 mod edit;
-mod flags;
 pub mod laws;
 mod propose;
 mod session;
-mod solver;
 
 pub use answer::Answer;
 pub use session::Session;

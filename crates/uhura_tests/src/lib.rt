@@ -15,3 +15,5 @@ mod loosenings;
 mod nets;
 #[cfg(test)]
 mod searches;
+#[cfg(test)]
+mod sessions;

@@ -1,28 +1,54 @@
-use Rattle.std.proofs.Common.{Some, None}
+use Rattle.std.proofs.Common.{Some, None, refl, arith}
 use Rattle.uhura_shows.proofs.Passing.{have-before_first}
+use Rattle.uhura_veto.specs.State.{State}
+use Rattle.uhura_search.specs.Shut.{IsShut}
 use Rattle.uhura_search.specs.Closed.{HasFront}
+use Rattle.uhura_search.proofs.Learns.{learns-none, some-both, some-stops, some-or_stops}
 use Rattle.uhura_search.proofs.Walked.{closed-next, closed-falls}
 use Rattle.uhura_search.proofs.closing.close_all.Goals as goal
 
 pub walk-init : goal.walk-init
-walk-init g c = record {
-  is_branch = c.first_branch-branch.ensures.is_branch;
-  before = have-before_first c.args.plan.now.choices (HasFront (g.C.Closing.closes c.args.closing.now)) c.first_branch-branch.result c.first_branch-branch.ensures;
-  ready = c.requires;
-}
+walk-init c =
+    let state : State = record { plan = c.args.plan.now; vetoes = c.args.vetoes.now } in
+    let learning = c.args.learning.now in
+    record {
+      is_branch = c.first_branch-branch.ensures.is_branch;
+      before = have-before_first c.args.plan.now.choices (HasFront (IsShut state learning.store None)) c.first_branch-branch.result c.first_branch-branch.ensures;
+      reached = tt;
+      learns = learns-none c.args.plan.now.choices learning learning c.requires.counts (record { store = refl; added = refl; table = refl; pushes = omega arith }) refl;
+      ready = c.requires;
+    }
 
 pub walk-preserved : goal.walk-preserved
-walk-preserved g c = record {
-  is_branch = c.in-Some.ensures.is_branch;
-  before = closed-next c.args.plan.now.choices (g.C.Closing.closes c.walk.closing) (g.C.Closing.closes c.close.new.self) c.walk.branch c.in_ok-prefix.prefix (Some c.in-Some.next)
-      c.walk.invariant.is_branch c.walk.invariant.before c.in_ok-prefix.ensures.begins c.in_ok-prefix.ensures.closed c.in_ok-prefix.ensures.kept c.in-Some.ensures;
-  ready = c.in_ok-prefix.ensures.ready;
-}
+walk-preserved c =
+    let state : State = record { plan = c.args.plan.now; vetoes = c.args.vetoes.now } in
+    let closes = c.in_ok-prefix.ensures.closes in
+    record {
+      is_branch = c.in-Some.ensures.is_branch;
+      before = closed-next c.args.plan.now.choices (IsShut state c.walk.learning.store c.walk.best) (IsShut state c.close.new.learning.store c.close.new.best) c.walk.branch c.in_ok-prefix.prefix (Some c.in-Some.next)
+          c.walk.invariant.is_branch c.walk.invariant.before c.in_ok-prefix.ensures.begins closes.shut closes.kept c.in-Some.ensures;
+      reached = closes.reached;
+      learns = some-both c.args.plan.now.choices c.args.learning.now c.walk.learning c.close.new.learning c.walk.invariant.learns closes.learns;
+      ready = c.in_ok-prefix.ensures.ready;
+    }
 
 pub walk-smaller : goal.walk-smaller
-walk-smaller g c = closed-falls c.args.plan.now.choices c.walk.branch c.in_ok-prefix.prefix c.in-Some.next c.in_ok-prefix.ensures.begins c.in-Some.ensures
+walk-smaller c = closed-falls c.args.plan.now.choices c.walk.branch c.in_ok-prefix.prefix c.in-Some.next c.in_ok-prefix.ensures.begins c.in-Some.ensures
+
+pub returns-in_err-prefix-clause-stops : goal.returns-in_err-prefix-clause-stops
+returns-in_err-prefix-clause-stops c = some-stops c.args.plan.now.choices c.args.learning.now c.walk.learning c.close.new.learning c.walk.invariant.learns c.in_err-prefix.ensures.stops
 
 pub returns-in_default-clause-closed : goal.returns-in_default-clause-closed
-returns-in_default-clause-closed g c = λ branch is_branch.
-    closed-next c.args.plan.now.choices (g.C.Closing.closes c.walk.closing) (g.C.Closing.closes c.close.new.self) c.walk.branch c.in_ok-prefix.prefix None
-    c.walk.invariant.is_branch c.walk.invariant.before c.in_ok-prefix.ensures.begins c.in_ok-prefix.ensures.closed c.in_ok-prefix.ensures.kept c.in_default.ensures branch is_branch tt
+returns-in_default-clause-closed c branch is_branch =
+    let state : State = record { plan = c.args.plan.now; vetoes = c.args.vetoes.now } in
+    let closes = c.in_ok-prefix.ensures.closes in
+    closed-next c.args.plan.now.choices (IsShut state c.walk.learning.store c.walk.best) (IsShut state c.close.new.learning.store c.close.new.best) c.walk.branch c.in_ok-prefix.prefix None
+    c.walk.invariant.is_branch c.walk.invariant.before c.in_ok-prefix.ensures.begins closes.shut closes.kept c.in_default.ensures branch is_branch tt
+
+pub returns-in_default-clause-learns : goal.returns-in_default-clause-learns
+returns-in_default-clause-learns c = some-both c.args.plan.now.choices c.args.learning.now c.walk.learning c.close.new.learning c.walk.invariant.learns c.in_ok-prefix.ensures.closes.learns
+
+pub returns-in_default-clause-stops : goal.returns-in_default-clause-stops
+returns-in_default-clause-stops c =
+    some-or_stops c.args.plan.now.choices c.args.learning.now c.close.new.learning
+    (some-both c.args.plan.now.choices c.args.learning.now c.walk.learning c.close.new.learning c.walk.invariant.learns c.in_ok-prefix.ensures.closes.learns)

@@ -7,7 +7,7 @@ use Rattle.uhura_search.specs.declared.leaf.LeafNote.{LeafNote}
 use Rattle.uhura_search.specs.Closed.{NoneAbove}
 use Rattle.uhura_search.specs.Shut.{IsShut, IsNoted}
 use Rattle.uhura_search.specs.Appended.{AppendsCover}
-use Rattle.uhura_search.proofs.Answering.{leaves-show}
+use Rattle.uhura_search.proofs.Answering.{leaves-show, leaves-entered}
 use Rattle.uhura_search.proofs.Appending.{none-above_empty}
 use Rattle.uhura_search.proofs.Denials.{denials-named}
 use Rattle.uhura_search.proofs.cover.leaves_of.Goals as goal
@@ -24,11 +24,20 @@ put_leaves-requires c =
       closed = c.requires.closed;
     }
 
-pub returns : goal.returns
-returns c =
+pub returns-clause-shows : goal.returns-clause-shows
+returns-clause-shows c =
     let state : State = record { plan = c.args.plan.now; vetoes = c.args.vetoes.now } in
     let Holds = IsNoted state c.args.store.now c.args.best.now in
     let made = c.put_leaves.new.leaves.items in
     leaves-show state c.args.store.now c.args.best.now made c.choices.ensures.sound (denials-named state c.count.ensures.sound) c.requires.store c.requires.reached
+    (subst (λ (p : List Pick). AppendsCover c.args.plan.now.choices Holds (p ∷ []) [] made) c.empty.ensures
+    (subst (λ (l : List LeafNote). AppendsCover c.args.plan.now.choices Holds (c.empty.result ∷ []) l made) c.new-leaves.ensures.items c.in_ok-put_leaves.ensures))
+
+pub returns-clause-entered : goal.returns-clause-entered
+returns-clause-entered c =
+    let state : State = record { plan = c.args.plan.now; vetoes = c.args.vetoes.now } in
+    let Holds = IsNoted state c.args.store.now c.args.best.now in
+    let made = c.put_leaves.new.leaves.items in
+    leaves-entered state c.args.store.now c.args.best.now made
     (subst (λ (p : List Pick). AppendsCover c.args.plan.now.choices Holds (p ∷ []) [] made) c.empty.ensures
     (subst (λ (l : List LeafNote). AppendsCover c.args.plan.now.choices Holds (c.empty.result ∷ []) l made) c.new-leaves.ensures.items c.in_ok-put_leaves.ensures))

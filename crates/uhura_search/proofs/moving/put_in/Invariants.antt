@@ -1,8 +1,6 @@
-use Rattle.std.specs.Prelude.{◌≤◌, ◌≡◌, length}
-use Rattle.uhura_net.specs.declared.place.TheConstants.{PLACES}
 use Rattle.uhura_flow.specs.Flow.{flow_edges}
 use Rattle.uhura_search.specs.Moving.{marked_edges, AreAmong, IsUnsettled}
-use Rattle.uhura_search.proofs.Putting.{AreThereBelow}
+use Rattle.uhura_search.proofs.Putting.{AreThereSo}
 use Rattle.uhura_search.proofs.moving.put_in.Given as goal
 
 -- the places so far of this kind have the edges of the marked items
@@ -10,7 +8,6 @@ abbrev pub invariant-loop-number : goal.invariant-loop-number
 invariant-loop-number l = record {
   among : AreAmong (flow_edges l.flow) (marked_edges l.fn.table l.fn.active);
   kept : AreAmong (flow_edges l.fn.flow) (flow_edges l.flow);
-  there : AreThereBelow l.number l.fn.loose (flow_edges l.flow) (marked_edges l.fn.table l.fn.active);
-  places : 1 ≤ l.number → length l.fn.table ≡ PLACES;
+  there : AreThereSo l.number-index l.places l.fn.loose (flow_edges l.flow) (marked_edges l.fn.table l.fn.active);
   unsettled : IsUnsettled l.fn.flow l.flow;
 }

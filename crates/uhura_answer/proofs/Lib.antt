@@ -1,0 +1,5 @@
+pub mod PickedLiterals
+pub mod ReadSides
+pub mod Bounds
+pub mod Shifted
+pub mod Stating
