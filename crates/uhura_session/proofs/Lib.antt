@@ -4,4 +4,3 @@ pub mod AnswersEdits
 pub mod Asking
 pub mod ShowReplays
 pub mod Refusals
-pub mod SameVetoes
