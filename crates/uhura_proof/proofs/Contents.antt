@@ -1,6 +1,6 @@
 -- Entries are told apart by their contents.
-use Rattle.std.proofs.Common.{◌≡◌, ℕ, ◌<◌, Bool, true, false, List, [], ◌∷◌, ◌++◌, map, flat_map, length, Option, Some, None, slice_get, get_or, Contains, option_map, refl, sym, ap, subst, ◌∙◌, inl, inr, arith, true≢false, append-nil}
-use Rattle.std.specs.Prelude.{All, not, if◌then◌else◌}
+use Rattle.std.proofs.Common.{◌≡◌, ℕ, ◌<◌, Bool, true, false, List, [], ◌∷◌, map, flat_map, length, Option, Some, None, slice_get, Contains, option_map, refl, sym, ap, subst, ◌∙◌, true≢false}
+use Rattle.std.specs.Prelude.{All, not}
 use Rattle.std.specs.List.{list_any, position_or_len}
 use Rattle.std.proofs.lemmas.List.Elements.{All-head, All-tail}
 use Rattle.std.specs.Bool.{Decides}

@@ -1,5 +1,5 @@
 -- What was learned, as an entry.
-use Rattle.std.proofs.Common.{◌≡◌, ℕ, ◌<◌, ◌≤◌, Bool, List, map, refl, sym, ap, subst, ◌∙◌}
+use Rattle.std.proofs.Common.{◌≡◌, ℕ, ◌<◌, ◌≤◌, Bool, List, map, sym, ap, subst}
 use Rattle.std.specs.Prelude.{All, IsTrue, IsFalse, if◌then◌else◌}
 use Rattle.std.specs.List.Sorted.{IsPermutation}
 use Rattle.std.proofs.lemmas.List.Elements.{All-map, All-weaker}
@@ -36,7 +36,7 @@ module _ (place : ℕ → ℕ) (conflict : Learned) (is : IsLearned conflict) wh
         (All-weaker (λ (pair : Place × ℕ). pair.0.0 < PLACES) (λ (pair : Place × ℕ). HasPlace (key_at pair.0.0)) (λ pair below. (key-stands pair.0.0 below).0) conflict.pairs is.inside));
     in_order = (
       All-permutation (λ (e : EdgeKey × ℕ). 1 ≤ e.1) (keyed conflict.pairs) edges same
-      (All-map (λ (e : EdgeKey × ℕ). 1 ≤ e.1) (λ (pair : Place × ℕ). (key_at pair.0.0, pair.1)) conflict.pairs is.some),
+          (All-map (λ (e : EdgeKey × ℕ). 1 ≤ e.1) (λ (pair : Place × ℕ). (key_at pair.0.0, pair.1)) conflict.pairs is.some),
       rise,
     );
   }

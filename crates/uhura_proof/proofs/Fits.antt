@@ -1,11 +1,10 @@
 -- What was learned of edges that are there fits the plan as an entry.
-use Rattle.std.proofs.Common.{◌≡◌, ◌≢◌, ℕ, zero, suc, ◌+◌, ◌*◌, ◌<◌, ◌≤◌, List, [], ◌∷◌, map, length, get_or, Option, Some, None, refl, sym, ap, subst, ◌∙◌, inl, inr, arith}
-use Rattle.std.specs.Prelude.{All, AllPairs, IfSome, IsSome, IsTrue, find, ◌==◌, slice_get, option_map, option_and_then, unwrap_or}
-use Rattle.std.specs.List.{AllByRecursion, position_or_len}
-use Rattle.std.specs.List.Sorted.{IsPermutation, IsNonDecreasingBy}
+use Rattle.std.proofs.Common.{◌≡◌, ◌≢◌, ℕ, zero, suc, ◌+◌, ◌*◌, ◌<◌, ◌≤◌, List, [], ◌∷◌, length, get_or, Option, Some, None, refl, sym, ap, subst, ◌∙◌, inl, inr, arith}
+use Rattle.std.specs.Prelude.{All, AllPairs, IfSome, IsSome, ◌==◌, slice_get, option_map, option_and_then, unwrap_or}
+use Rattle.std.specs.List.Sorted.{IsNonDecreasingBy}
 use Rattle.std.proofs.lemmas.Bool.{cases_lt}
 use Rattle.std.proofs.lemmas.Bool.Decides.{Decides-eqb}
-use Rattle.std.proofs.lemmas.List.Elements.{All-head, All-tail, All-nil, All-cons, All-weaker, recursion_from_All}
+use Rattle.std.proofs.lemmas.List.Elements.{All-head, All-tail, All-weaker, recursion_from_All}
 use Rattle.std.proofs.lemmas.List.Sorted.{All-permutation}
 use Rattle.std.proofs.lemmas.Option.{slice_get_within, same_Some}
 use Rattle.uhura_plan.specs.declared.key.EdgeKey.{EdgeKey}
@@ -42,14 +41,13 @@ use Rattle.uhura_command.proofs.CountedItems as numbers
 use Rattle.uhura_command.proofs.CountedItems.{placed}
 use Rattle.uhura_item.specs.declared.limits.TheConstants.{EDGE_UNITS}
 use Rattle.uhura_item.specs.Item.{IsBetween}
-use Rattle.uhura_conflict.specs.Learned.{Learned}
 use Rattle.uhura_shows.specs.Leaf as shown
 use Rattle.uhura_shows.specs.Leaf.{LeafReason}
-use Rattle.uhura_shows.specs.Carried.{keyed_edge, IsCarried}
+use Rattle.uhura_shows.specs.Carried.{IsCarried}
 use Rattle.uhura_cert.specs.declared.document.Shared.{Shared}
 use Rattle.uhura_cert.specs.declared.document.Shared.TheVariants.{Flow, Stuck}
 use Rattle.uhura_cert.specs.Document.{AreEdgeUnits, IsShared}
-use Rattle.uhura_cert.specs.Order.{place_in, item_place, side_number, first_edge, edge_place, IsEdgeOf, Rises}
+use Rattle.uhura_cert.specs.Order.{place_in, item_place, side_number, edge_place, IsEdgeOf, Rises}
 use Rattle.uhura_check.specs.Confirmed.{entry_reason}
 use Rattle.uhura_proof.specs.Entries.{place_by, ArePlaces, AreInOrder, HasUnitsInOrder}
 use Rattle.uhura_proof.specs.Made.{IsSameReason, IsThere}
@@ -262,8 +260,7 @@ rises n m P least (e ∷ f ∷ es) same told all once rise above =
     let next = All-head P f es (All-tail P e (f ∷ es) all) in
     let below : n e ≤ n f = first_below n e f es rise in
     let differ : m e ≢ m f = λ equal. once 0 1 e (omega arith) (omega arith) (told e f here next equal) in
-    let less : m e + 1 ≤ m f = by_order (m e) (m f) differ (omega (arith, below, same e here, same f next)) in
-    (
+    let less : m e + 1 ≤ m f = by_order (m e) (m f) differ (omega (arith, below, same e here, same f next)) in (
       above e (f ∷ es) refl,
       rises n m P (m e + 1) (f ∷ es) same told (All-tail P e (f ∷ es) all) (λ i j d before inside. once (suc i) (suc j) d (omega (arith, before)) (omega (arith, inside))) (rest_rises n e (f ∷ es) rise)
           (λ g rest is. let one : f ≡ g = cc in subst (λ x. m e + 1 ≤ m x) one less),

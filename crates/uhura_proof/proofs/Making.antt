@@ -1,6 +1,6 @@
 -- Leaves that are made one by one, with their entries.
-use Rattle.std.proofs.Common.{◌≡◌, ◌≢◌, ℕ, zero, suc, ◌+◌, ◌<◌, ◌≤◌, Bool, true, false, List, [], ◌∷◌, ◌++◌, map, length, get_or, cond, Option, Some, None, Contains, refl, sym, ap, subst, ◌∙◌, inl, inr, arith}
-use Rattle.std.specs.Prelude.{◌⊎◌, All, AllPairs, IsSome, ◌==◌, slice_get}
+use Rattle.std.proofs.Common.{◌≡◌, ◌≢◌, ℕ, zero, suc, ◌+◌, ◌<◌, ◌≤◌, Bool, true, false, List, [], ◌∷◌, ◌++◌, map, length, get_or, cond, Option, Some, Contains, refl, sym, ap, subst, ◌∙◌, inl, inr, arith}
+use Rattle.std.specs.Prelude.{All, AllPairs, slice_get}
 use Rattle.std.specs.List.{AllZip, position_or_len}
 use Rattle.std.specs.Option.{option_map_or}
 use Rattle.std.proofs.lemmas.Bool.{cases_lt, ne_eqb, eq-eqb}
@@ -24,7 +24,7 @@ use Rattle.uhura_search.specs.Answer.{shown_reason}
 use Rattle.uhura_shows.specs.Leaf as shows
 use Rattle.uhura_shows.specs.Leaf.{LeafReason, LeafShown}
 use Rattle.uhura_cert.specs.declared.document.Shared.{Shared}
-use Rattle.uhura_cert.specs.declared.document.Shared.TheVariants.{Flow, Stuck}
+use Rattle.uhura_cert.specs.declared.document.Shared.TheVariants.{Flow}
 use Rattle.uhura_cert.specs.declared.document.Reason.{Reason}
 use Rattle.uhura_cert.specs.declared.document.Reason.TheVariants as reason
 use Rattle.uhura_cert.specs.declared.document.Leaf.{Leaf}
@@ -34,7 +34,7 @@ use Rattle.uhura_cert.proofs.Ordered.{slice_get-last, slice_get-kept}
 use Rattle.uhura_check.specs.Confirmed.{entry_reason, reason_of, leaf_of}
 use Rattle.uhura_proof.specs.Entries.{place_by, ArePlaces, HasUnitsInOrder, IsEntryFor, IsPut}
 use Rattle.uhura_proof.specs.Made.{IsSameReason, IsSameLeaf, IsThere, AreOfPlan, AreMade}
-use Rattle.uhura_proof.specs.Proof.{is_use_of, first_use, AreUsedInOrder}
+use Rattle.uhura_proof.specs.Proof.{is_use_of, first_use}
 use Rattle.uhura_proof.specs.Using.{IsUseOf, AreEntriesFor, IsReasonMade, IsLeafMade}
 use Rattle.uhura_proof.proofs.Fits.{entry_fits}
 

@@ -1,6 +1,6 @@
 -- The table of the places at which the requirements in the slots stand.
-use Rattle.std.proofs.Common.{◌≡◌, ◌≢◌, ℕ, zero, suc, ◌+◌, ◌<◌, Bool, true, false, List, [], ◌∷◌, length, set, get_or, replicate, length-set, Option, Some, None, IsSome, slice_get, AllPairs, Bor, inl, inr, refl, sym, ap, subst, ◌∙◌, arith, get_or-set_same, get_or-set_other}
-use Rattle.std.specs.Prelude.{◌==◌, find, option_copied}
+use Rattle.std.proofs.Common.{◌≡◌, ◌≢◌, ℕ, zero, suc, ◌+◌, ◌<◌, Bool, true, false, List, [], ◌∷◌, length, set, replicate, length-set, Option, Some, None, IsSome, slice_get, AllPairs, Bor, inl, inr, refl, sym, ap, subst, ◌∙◌, arith, get_or-set_same, get_or-set_other}
+use Rattle.std.specs.Prelude.{◌==◌, option_copied}
 use Rattle.std.specs.List.{position_or_len}
 use Rattle.std.proofs.lemmas.Bool.{cases_lt, cases_eq}
 use Rattle.std.proofs.lemmas.Bool.Decides.{Decides-eqb}
@@ -12,7 +12,6 @@ use Rattle.uhura_plan.specs.Lists.{Lists, slots}
 use Rattle.uhura_worst.proofs.FirstItems.{passes, slot_at}
 use Rattle.uhura_command.proofs.CountedItems as numbers
 use Rattle.uhura_command.proofs.CountedItems.{placed}
-use Rattle.uhura_cert.specs.Order.{place_in}
 use Rattle.uhura_proof.specs.Entries.{place_by, ArePlaces}
 
 -- the places of the first requirements

@@ -1,7 +1,7 @@
 -- Leaves show the same answer where their units stand in another order.
-use Rattle.std.proofs.Common.{◌≡◌, ◌≢◌, ℕ, zero, suc, ◌+◌, ◌<◌, List, [], ◌∷◌, map, length, get_or, set, Option, Some, None, refl, sym, ap, subst, ◌∙◌, inl, inr, arith, get_or-set_same, get_or-set_other, length-set}
+use Rattle.std.proofs.Common.{◌≡◌, ◌≢◌, ℕ, zero, suc, ◌+◌, ◌<◌, List, [], ◌∷◌, map, length, get_or, set, Some, None, refl, sym, ap, subst, ◌∙◌, inl, inr, arith, get_or-set_same, get_or-set_other, length-set}
 use Rattle.std.proofs.lemmas.Int.{ints}
-use Rattle.std.specs.Prelude.{ℤ, pos, ◌+ℤ◌, ◌*ℤ◌, ◌≤ℤ◌, neg_ℤ, All, AllPairs, IfSome, IsTrue, if◌then◌else◌, ◌==◌}
+use Rattle.std.specs.Prelude.{ℤ, pos, ◌+ℤ◌, ◌*ℤ◌, ◌≤ℤ◌, All, AllPairs, IfSome, IsTrue, if◌then◌else◌, ◌==◌}
 use Rattle.std.specs.List.{swap, AllZip}
 use Rattle.std.specs.List.Sorted.{IsPermutation}
 use Rattle.std.proofs.lemmas.Bool.{cases_eq, cases_order}
@@ -14,8 +14,8 @@ use Rattle.uhura_veto.specs.State.{State}
 use Rattle.uhura_worst.specs.Edges.{is_active_edge}
 use Rattle.uhura_shows.specs.Leaf.{LeafReason, Denied, Flow, Stuck, LeafShown, prefixes_of}
 use Rattle.uhura_shows.specs.Cover.{IsCover}
-use Rattle.uhura_shows.specs.Carried.{keyed_edge, IsCarried, IsKeyedCirculation, units_into, units_out_of, weighed_pairs, value_of_pairs, AreSettledKeys}
-use Rattle.uhura_shows.specs.Shows.{Answer, IsShownBy, IsBoundedBy, shown_cost, Shows, AreNoProperFronts}
+use Rattle.uhura_shows.specs.Carried.{keyed_edge, IsCarried, IsKeyedCirculation, weighed_pairs}
+use Rattle.uhura_shows.specs.Shows.{Answer, IsShownBy, shown_cost, Shows, AreNoProperFronts}
 use Rattle.uhura_proof.specs.Made.{IsSameReason, IsSameLeaf}
 
 -- ---- what holds of all pairs, whichever comes first

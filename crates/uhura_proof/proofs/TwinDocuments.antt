@@ -1,11 +1,8 @@
 -- The leaves of documents that are the same up to slots are twins.
-use Rattle.std.proofs.Common.{◌≡◌, ℕ, zero, suc, ◌<◌, List, [], ◌∷◌, length, map, Option, Some, None, IfSome, refl, sym, ap, subst, ◌∙◌}
-use Rattle.std.specs.Prelude.{slice_get, option_map}
+use Rattle.std.proofs.Common.{◌≡◌, ℕ, zero, suc, List, [], ◌∷◌, length, map, ap, subst}
 use Rattle.std.specs.List.{AllZip, AllByRecursion}
-use Rattle.std.specs.Option.{option_map_or}
 use Rattle.uhura_plan.specs.declared.key.EdgeKey.{EdgeKey}
-use Rattle.uhura_command.specs.State.{IsSoundState}
-use Rattle.uhura_shows.specs.Leaf.{LeafReason, LeafShown}
+use Rattle.uhura_shows.specs.Leaf.{LeafReason}
 use Rattle.uhura_cert.specs.declared.document.Shared.{Shared}
 use Rattle.uhura_cert.specs.declared.document.Shared.TheVariants as shared
 use Rattle.uhura_cert.specs.declared.document.Reason.{Reason}

@@ -1,8 +1,7 @@
 -- Leaves of two states that are the same up to slots: they show the same answer.
-use Rattle.std.proofs.Common.{◌≡◌, ◌≢◌, ℕ, ◌+◌, ◌≤◌, Bool, List, [], ◌∷◌, map, Option, Some, None, IsSome, unwrap_or, refl, sym, ap, subst, ◌∙◌, arith}
-use Rattle.std.specs.Prelude.{ℤ, pos, ◌+ℤ◌, ◌*ℤ◌, ◌≤ℤ◌, ◌<ℤ◌, neg_ℤ, ◌==◌, if◌then◌else◌, All, AllPairs, IsTrue, IsFalse, IfSome, sum_by, slice_get}
+use Rattle.std.proofs.Common.{◌≡◌, ◌≢◌, ℕ, ◌+◌, List, [], ◌∷◌, map, Option, Some, None, IsSome, unwrap_or, refl, sym, ap, subst, ◌∙◌, arith}
+use Rattle.std.specs.Prelude.{pos, ◌+ℤ◌, ◌*ℤ◌, ◌≤ℤ◌, ◌<ℤ◌, ◌==◌, if◌then◌else◌, All, AllPairs, IsTrue, IfSome, sum_by}
 use Rattle.std.specs.List.{AllZip}
-use Rattle.std.specs.Option.{option_map_or}
 use Rattle.std.proofs.lemmas.Int.{ints}
 use Rattle.std.proofs.lemmas.List.Elements.{All-nil, All-cons, All-head, All-tail}
 use Rattle.std.proofs.lemmas.List.Kept.{AllPairs-cons}
@@ -12,17 +11,15 @@ use Rattle.uhura_choice.specs.declared.prefix.Pick.{Pick}
 use Rattle.uhura_choice.specs.Branch.{picked_cost}
 use Rattle.uhura_net.specs.declared.edge.Edge.{Edge}
 use Rattle.uhura_net.specs.Edges.{no_edge}
-use Rattle.uhura_net.specs.Place.{is_loose_key}
 use Rattle.uhura_net.specs.Walk.{IsClosedWalk, bounds_of}
 use Rattle.uhura_veto.specs.State.{State}
-use Rattle.uhura_veto.specs.Denial.{denies}
-use Rattle.uhura_worst.specs.Edges.{edge_of, is_active_edge}
+use Rattle.uhura_worst.specs.Edges.{is_active_edge}
 use Rattle.uhura_command.specs.Replay.{IsSameUpToSlots}
 use Rattle.uhura_command.specs.State.{IsSoundState}
 use Rattle.uhura_shows.specs.Leaf.{LeafReason, Denied, Flow, Stuck, LeafShown, prefixes_of}
 use Rattle.uhura_shows.specs.Cover.{IsCover}
-use Rattle.uhura_shows.specs.Carried.{keyed_edge, IsCarried, IsKeyedCirculation, units_into, units_out_of, weighed_pairs, value_of_pairs, AreSettledKeys, IsFirmKey, IsNegativeKeyedWalk}
-use Rattle.uhura_shows.specs.Shows.{Answer, IsShownBy, IsBoundedBy, IsStuckBy, shown_cost, Shows, AreNoProperFronts, is_denied_by}
+use Rattle.uhura_shows.specs.Carried.{keyed_edge, IsCarried, IsKeyedCirculation, weighed_pairs, AreSettledKeys, IsFirmKey}
+use Rattle.uhura_shows.specs.Shows.{Answer, IsShownBy, IsStuckBy, shown_cost, Shows, AreNoProperFronts, is_denied_by}
 use Rattle.uhura_shows.proofs.Lists.{pairs-head, pairs-tail}
 use Rattle.uhura_proof.proofs.SameVetoes.{all_alike, denied_at}
 use Rattle.uhura_proof.proofs.Twins.{AreTwinEdges, twin_edge, twin_loose, twin_active, one_twin}

@@ -1,10 +1,10 @@
 -- Proposals of two states that are the same up to slots: they are allowed together, and cost the same.
-use Rattle.std.proofs.Common.{◌≡◌, ◌≢◌, ℕ, zero, suc, ◌+◌, ◌*◌, ◌<◌, ◌≤◌, Bool, true, false, List, [], ◌∷◌, length, map, Option, Some, None, IsSome, IfSome, Contains, refl, sym, ap, subst, ◌∙◌, inl, inr, arith}
-use Rattle.std.specs.Prelude.{ℤ, pos, ◌+ℤ◌, ◌-ℤ◌, ◌*ℤ◌, ◌≤ℤ◌, nat_eq, ◌==◌, ◌&&◌, slice_get, option_map, if◌then◌else◌, unwrap_or, sum_by, IsTrue, IsFalse}
-use Rattle.std.specs.List.{AllZip, AllByRecursion}
+use Rattle.std.proofs.Common.{◌≡◌, ◌≢◌, ℕ, zero, suc, ◌+◌, ◌*◌, ◌<◌, ◌≤◌, List, [], ◌∷◌, length, map, Option, Some, None, IsSome, IfSome, Contains, refl, sym, ap, subst, ◌∙◌, inl, inr, arith}
+use Rattle.std.specs.Prelude.{ℤ, pos, ◌+ℤ◌, ◌-ℤ◌, ◌*ℤ◌, ◌≤ℤ◌, nat_eq, ◌&&◌, slice_get, option_map, if◌then◌else◌, unwrap_or, sum_by}
+use Rattle.std.specs.List.{AllByRecursion}
 use Rattle.std.proofs.lemmas.List.{length-map}
 use Rattle.std.proofs.lemmas.List.Sums.{sum_by-cons}
-use Rattle.std.proofs.lemmas.Option.{same_Some, slice_get-map, slice_get_within, get_or_from_slice_get, slice_get-get_or}
+use Rattle.std.proofs.lemmas.Option.{same_Some, slice_get-map, slice_get_within}
 use Rattle.uhura_plan.specs.declared.key.EventRef.{EventRef}
 use Rattle.uhura_plan.specs.declared.key.EventRef.TheVariants.{Controllable, End}
 use Rattle.uhura_plan.specs.declared.key.Side.{Side}
@@ -17,18 +17,17 @@ use Rattle.uhura_plan.specs.declared.choice.Choice.{Choice}
 use Rattle.uhura_plan.specs.declared.requirement.Requirement.{Requirement}
 use Rattle.uhura_plan.specs.declared.uncertain.Uncertain.{Uncertain}
 use Rattle.uhura_plan.specs.Find.{requirement_in}
-use Rattle.uhura_plan.specs.Keys.{is_same_item, is_same_side, is_same_key}
+use Rattle.uhura_plan.specs.Keys.{is_same_item, is_same_side}
 use Rattle.uhura_plan.specs.Lists.{Lists, slots}
-use Rattle.uhura_plan.specs.Sides.{loosening_rate, rate_of}
+use Rattle.uhura_plan.specs.Sides.{rate_of}
 use Rattle.uhura_plan.specs.Sound.{IsSound}
 use Rattle.uhura_choice.specs.Branch.{IsBranch, holds, picked_cost}
 use Rattle.uhura_veto.specs.State.{State}
-use Rattle.uhura_veto.specs.Denial.{is_denied}
 use Rattle.uhura_veto.specs.Room.{requirement_room, duration_room, IsWithinRoom}
 use Rattle.uhura_veto.specs.Vetoes.{IsItemOf}
 use Rattle.uhura_worst.specs.Proposal.{Proposal, loosened, narrowed, least_left, greatest_left, AreLeft, time_of, IsWithin}
 use Rattle.uhura_worst.specs.Allowed.{Allowed}
-use Rattle.uhura_worst.specs.Cost.{price_of, loosening_cost, narrowing_cost, narrowings_cost, cost}
+use Rattle.uhura_worst.specs.Cost.{price_of, loosening_cost, narrowings_cost, cost}
 use Rattle.uhura_worst.specs.Slots.{IsSameButForSlots}
 use Rattle.uhura_worst.specs.Units.{side_units}
 use Rattle.uhura_worst.proofs.FirstItems.{slot_at, requirement_in-member}
@@ -42,7 +41,7 @@ use Rattle.uhura_shows.proofs.Lists.{pairs-places, contains-place}
 use Rattle.uhura_cert.specs.declared.document.Proposal.{Proposal as Stated}
 use Rattle.uhura_cert.specs.Document.{IsProposal}
 use Rattle.uhura_cert.specs.Order.{place_in}
-use Rattle.uhura_cert.specs.ReadsBack.{placed_thing, placed_side, placed_relaxed, placed_proposal}
+use Rattle.uhura_cert.specs.ReadsBack.{placed_thing, placed_relaxed, placed_proposal}
 use Rattle.uhura_check.specs.Confirmed.{picks_of, proposal_of}
 use Rattle.uhura_proof.proofs.Places.{position_is}
 use Rattle.uhura_proof.proofs.Fits.{same_slot}
@@ -164,8 +163,7 @@ module _ (a b : State) (sound_a : IsSoundState a) (sound_b : IsSoundState b) (sa
     left_same : (k : ℕ) (durations : ℕ → ℤ) → AreLeft b.plan k y durations → AreLeft a.plan k x durations
     left_same k durations left d u at =
         let there : slice_get b.plan.uncertains d ≡ Some u = ap (λ (us : List Uncertain). slice_get us d) (sym same.uncertains) ∙ at in
-        let is = left d u there in
-        (
+        let is = left d u there in (
           subst (λ n. ((pos k *ℤ u.lower) +ℤ pos n) ≤ℤ durations d) (sym (narrowed_same Lower d u there)) is.0,
           subst (λ n. durations d ≤ℤ ((pos k *ℤ u.upper) -ℤ pos n)) (sym (narrowed_same Upper d u there)) is.1,
         )

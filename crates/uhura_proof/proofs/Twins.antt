@@ -1,10 +1,8 @@
 -- Edges of two states that are the same up to slots: what the one says of an edge the other says of its twin.
-use Rattle.std.proofs.Common.{◌≡◌, ◌≢◌, ℕ, zero, suc, ◌+◌, ◌*◌, ◌<◌, Bool, true, false, List, [], ◌∷◌, length, map, Option, Some, None, IsSome, IfSome, Contains, refl, sym, ap, subst, ◌∙◌, arith}
-use Rattle.std.specs.Prelude.{ℤ, nat_eq, find, ◌==◌, ◌&&◌, slice_get, option_map, option_and_then, if◌then◌else◌}
-use Rattle.std.specs.List.{AllZip, position_or_len}
+use Rattle.std.proofs.Common.{◌≡◌, ℕ, false, List, Option, Some, None, IsSome, refl, sym, ap, subst, ◌∙◌}
+use Rattle.std.specs.Prelude.{slice_get, option_map, option_and_then}
 use Rattle.std.specs.Option.{option_map_or}
-use Rattle.std.proofs.lemmas.Bool.Decides.{Decides-eqb, eqb_tells}
-use Rattle.std.proofs.lemmas.Option.{same_Some, slice_get-map, slice_get_within, get_or_from_slice_get}
+use Rattle.std.proofs.lemmas.Option.{same_Some, slice_get-map}
 use Rattle.uhura_plan.specs.declared.key.Side.{Side}
 use Rattle.uhura_plan.specs.declared.key.Side.TheVariants.{Lower, Upper}
 use Rattle.uhura_plan.specs.declared.key.Item.{Item}
@@ -12,33 +10,28 @@ use Rattle.uhura_plan.specs.declared.key.Item.TheVariants as item
 use Rattle.uhura_plan.specs.declared.key.SideKey.{SideKey}
 use Rattle.uhura_plan.specs.declared.key.EdgeKey.{EdgeKey}
 use Rattle.uhura_plan.specs.declared.key.EdgeKey.TheVariants.{Loose, Firm, Order, Steep}
-use Rattle.uhura_plan.specs.declared.price.Rate.{Rate}
-use Rattle.uhura_plan.specs.declared.choice.Choice.{Choice}
 use Rattle.uhura_plan.specs.declared.requirement.Requirement.{Requirement}
 use Rattle.uhura_plan.specs.declared.uncertain.Uncertain.{Uncertain}
 use Rattle.uhura_plan.specs.Find.{requirement_in}
-use Rattle.uhura_plan.specs.Keys.{is_same_item, is_same_side, is_same_key}
 use Rattle.uhura_plan.specs.Lists.{Lists}
 use Rattle.uhura_plan.specs.Sides.{bounded_of, loosening_rate, rate_of}
 use Rattle.uhura_choice.specs.declared.prefix.Pick.{Pick}
 use Rattle.uhura_choice.specs.Branch.{holds}
-use Rattle.uhura_net.specs.declared.edge.Edge.{Edge}
 use Rattle.uhura_net.specs.Place.{is_loose_key}
 use Rattle.uhura_veto.specs.State.{State}
 use Rattle.uhura_veto.specs.Room.{room_to_loosen, room_to_narrow, requirement_room, duration_room, width_of}
 use Rattle.uhura_veto.specs.Vetoes.{IsItemOf}
-use Rattle.uhura_worst.specs.declared.constraint.Constraint.{Constraint}
 use Rattle.uhura_worst.specs.Edges.{requirement_constraint, duration_constraint, loose_edge, steep_edge, firm_edge, requirement_edge, duration_edge, edge_in, edge_of, is_active_item, is_active_edge, item_of}
 use Rattle.uhura_worst.specs.Slots.{IsSameButForSlots, loosening_caps}
 use Rattle.uhura_command.specs.Replay.{in_slot, IsSameUpToSlots}
 use Rattle.uhura_command.specs.State.{IsSoundState}
 use Rattle.uhura_command.proofs.CountedItems as numbers
 use Rattle.uhura_command.proofs.CountedItems.{placed}
-use Rattle.uhura_cert.specs.Order.{place_in, item_place, edge_place, IsEdgeOf}
+use Rattle.uhura_cert.specs.Order.{place_in, edge_place, IsEdgeOf}
 use Rattle.uhura_cert.specs.ReadsBack.{placed_thing, placed_side, placed_edge}
 use Rattle.uhura_proof.proofs.Places.{position_is}
-use Rattle.uhura_proof.proofs.Fits.{same_edge, same_slot, edge_there}
-use Rattle.uhura_proof.proofs.SameVetoes.{asked_alike, slot-found, same_test}
+use Rattle.uhura_proof.proofs.Fits.{same_edge}
+use Rattle.uhura_proof.proofs.SameVetoes.{asked_alike}
 
 -- what a requirement says doesn't depend on its slot
 constraint_slotless : (side : Side) (r : Requirement) → requirement_constraint side (in_slot 0 r) ≡ requirement_constraint side r

@@ -1,5 +1,5 @@
 -- Shared entries that are made of what was learned: the order of their edges, and numbers that tell them apart.
-use Rattle.std.specs.Prelude.{◌≡◌, ℕ, ◌<◌, ◌≤◌, ◌⊎◌, List, [], ◌∷◌, ◌++◌, map, flat_map, length, All, Contains, Some, IsSome, slice_get, slice_index_or}
+use Rattle.std.specs.Prelude.{◌≡◌, ℕ, ◌≤◌, ◌⊎◌, List, [], ◌∷◌, ◌++◌, map, flat_map, length, All, Contains, Some, IsSome, slice_get, slice_index_or}
 use Rattle.std.specs.List.Sorted.{IsNonDecreasingBy}
 use Rattle.uhura_plan.specs.declared.key.EdgeKey.{EdgeKey}
 use Rattle.uhura_plan.specs.Find.{requirement_in}

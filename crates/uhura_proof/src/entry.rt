@@ -13,8 +13,8 @@ use uhura_conflict::Conflict;
 use uhura_net::{Place, key_of};
 use uhura_plan::EdgeKey;
 
-/// The shared entry of what was learned: the edges of a flow in the plan's order, by a table of places, or the edges of
-/// a walk in its own.
+/// The shared entry of what was learned: the edges of a flow in the plan's order, by a table of places, or the edges
+/// of a walk in its own.
 pub(crate) fn entry_of(
     alloc: Global,
     places: &[u32],

@@ -5,4 +5,3 @@ pub mod Asking
 pub mod ShownFound
 pub mod ShowReplays
 pub mod Refusals
-pub mod SameVetoes

@@ -1,5 +1,4 @@
-use Rattle.std.proofs.Common.{◌≡◌, sym, ap, subst, ◌∙◌}
-use Rattle.uhura_veto.specs.State.{State}
+use Rattle.std.proofs.Common.{subst}
 use Rattle.uhura_command.specs.State.{IsSoundState}
 use Rattle.uhura_search.specs.Answer.{shown_leaves}
 use Rattle.uhura_proof.specs.Proof.{branch_and_cost}

@@ -1,8 +1,7 @@
-use Rattle.std.proofs.Common.{rules, ◌≡◌, ℕ, Bool, List, ◌∷◌, ◌++◌, [], map, Some, slice_get, refl, sym, ap, subst, ◌∙◌, inl, inr, true, false, arith, bytes_eq}
+use Rattle.std.proofs.Common.{rules, ◌≡◌, Bool, ◌∷◌, ◌++◌, [], Some, slice_get, sym, ap, subst, ◌∙◌, inl, inr, true, false, bytes_eq}
 use Rattle.std.specs.Prelude.{if◌then◌else◌}
 use Rattle.std.specs.List.{list_any}
 use Rattle.std.proofs.lemmas.Slice.Eq.{bytes_eq-Decides}
-use Rattle.uhura_proof.specs.Entries.{IsPut}
 use Rattle.uhura_proof.proofs.Contents.{entry_at, entry_first, key_last, not_true, not_false}
 use Rattle.uhura_proof.proofs.entries.put_entry.Goals as goal
 use Rattle.uhura_proof.proofs.entries.put_entry.Goals.{then-is_new+in_ok-push, else-is_new}

@@ -1,4 +1,4 @@
-use Rattle.std.proofs.Common.{rules, ◌≡◌, sym, ap, subst, ◌∙◌}
+use Rattle.std.proofs.Common.{rules, ◌≡◌, sym, subst, ◌∙◌}
 use Rattle.uhura_cert.specs.Document.{ArePicks}
 use Rattle.uhura_proof.proofs.Making.{prefix_picks}
 use Rattle.uhura_proof.proofs.leaves.leaf_of.Goals as goal

@@ -1,6 +1,5 @@
-use Rattle.std.proofs.Common.{◌≡◌, ◌+◌, ℕ, List, [], ◌∷◌, ◌++◌, get_or, take, map, length, refl, sym, ap, subst, ◌∙◌, arith}
-use Rattle.std.proofs.lemmas.List.{take_more, map-append, take_all}
-use Rattle.uhura_shows.specs.Leaf.{LeafShown}
+use Rattle.std.proofs.Common.{◌≡◌, ◌+◌, List, [], ◌∷◌, ◌++◌, take, sym, ap, subst, ◌∙◌}
+use Rattle.std.proofs.lemmas.List.{take_more, map-append}
 use Rattle.uhura_shows.proofs.Lists.{All-from_map}
 use Rattle.uhura_search.specs.declared.leaf.LeafNote.{LeafNote}
 use Rattle.uhura_search.specs.Answer.{shown_leaf, shown_leaves}
@@ -28,6 +27,6 @@ loop-note-preserved c =
       contents = c.in_ok-leaf_of.ensures.contents;
       made =
           subst (λ ls. AreMade state ls c.leaf_of.new.entries.items c.push.new.self.items) (sym shown)
-          (subst (λ (leaves : List Leaf). AreMade state (shown_leaves state (take i notes) ++ shown_leaf state note ∷ []) c.leaf_of.new.entries.items leaves) (sym c.in_ok-push.ensures.items)
+          (subst (λ (leaves : List Leaf). AreMade state (shown_leaves state (take i notes) ++ shown_leaf state note ∷ []) c.leaf_of.new.entries.items leaves) (sym {A = List Leaf} c.in_ok-push.ensures.items)
           (made_more state (shown_leaves state (take i notes)) (shown_leaf state note) c.loop-note.entries.items c.loop-note.leaves.items c.in_ok-leaf_of.field-0 c.loop-note.invariant.made c.leaf_of.new.entries.items c.in_ok-leaf_of.ensures.made));
     }

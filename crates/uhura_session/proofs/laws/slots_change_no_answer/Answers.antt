@@ -1,7 +1,7 @@
 use Rattle.std.proofs.Common.{ap, ◌++◌}
 use Rattle.std.specs.Prelude.{codes}
 use Rattle.uhura_command.proofs.Slotless.{script_slotless}
-use Rattle.uhura_session.proofs.SameVetoes.{asked_alike}
+use Rattle.uhura_proof.proofs.SameVetoes.{asked_alike}
 use Rattle.uhura_session.proofs.laws.slots_change_no_answer.Goals as goal
 
 pub returns-clause-shown : goal.returns-clause-shown
