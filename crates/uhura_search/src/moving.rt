@@ -162,13 +162,7 @@ fn take_at(flow: &mut Flow, place: Place, edge: Option<Edge>)
 }
 
 /// Puts in the loose edges that the flow is to have and hasn't, or those that aren't loose.
-fn put_in(
-    flow: &mut Flow,
-    table: &EdgeTable,
-    places: &[u32],
-    active: &[bool],
-    loose: bool,
-) -> Moved
+fn put_in(flow: &mut Flow, table: &EdgeTable, places: &[u32], active: &[bool], loose: bool) -> Moved
     requires slots { length active.now ≡ REQUIREMENTS }
     requires bounds { HasFlowBounds table.now }
     requires listed { AreListed places.now table.now }
