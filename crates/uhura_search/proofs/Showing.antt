@@ -1,6 +1,6 @@
 -- Leaves whose prefixes are shut for their reasons show the answer.
 use Rattle.std.proofs.Common.{◌≡◌, ℕ, ◌+◌, ◌<◌, ◌≤◌, List, [], length, get_or, map, Option, None, true, false, Bool, cond, refl, sym, subst, arith}
-use Rattle.std.specs.Prelude.{ℤ, pos, ◌+ℤ◌, ◌≤ℤ◌, All, Contains, IsTrue, IsFalse, IsSome, IfSome, MatchBool}
+use Rattle.std.specs.Prelude.{ℤ, pos, ◌+ℤ◌, ◌*ℤ◌, ◌≤ℤ◌, All, Contains, IsTrue, IsFalse, IsSome, IfSome, MatchBool}
 use Rattle.std.proofs.lemmas.List.Elements.{All-nil, All-map, All-contains, Contains-get_or}
 use Rattle.uhura_plan.specs.declared.key.EdgeKey.{EdgeKey}
 use Rattle.uhura_choice.specs.declared.prefix.Pick.{Pick}
@@ -11,7 +11,13 @@ use Rattle.uhura_net.specs.declared.place.TheConstants.{PLACES}
 use Rattle.uhura_net.specs.Circulation.{edges_of, IsCirculation}
 use Rattle.uhura_net.specs.Optimal.{firm_edges}
 use Rattle.uhura_net.specs.Walk.{IsNegativeWalk}
+use Rattle.uhura_plan.specs.Sound.{IsSound}
+use Rattle.uhura_choice.specs.Order.{IsFrontOf}
 use Rattle.uhura_veto.specs.State.{State}
+use Rattle.uhura_worst.specs.Proposal.{Proposal}
+use Rattle.uhura_worst.specs.Allowed.{Allowed}
+use Rattle.uhura_worst.specs.Cost.{cost}
+use Rattle.uhura_shows.proofs.Leaves.{pairs-bound}
 use Rattle.uhura_worst.specs.Edges.{is_active_edge}
 use Rattle.uhura_worst.specs.Filled.{IsTableOf}
 use Rattle.uhura_dual.specs.Settled.{key_at}
@@ -109,6 +115,14 @@ module _ (state : State) (store : Stored) (prefix : List Pick) (c : Learned) (is
           least = subst (λ (v : ℤ). pos best.cost ≤ℤ (v +ℤ pos (picked_cost state.plan.choices prefix))) worth enough.least;
           more = λ earlier. subst (λ (v : ℤ). pos (best.cost + 1) ≤ℤ (v +ℤ pos (picked_cost state.plan.choices prefix))) worth (enough.more earlier);
         }
+
+    -- and whatever it is worth bounds all that is allowed there
+    pub flow-bounds : (k : ℕ) (q : Proposal) → IsSound state.plan → IsFrontOf prefix q.branch → Allowed state k q →
+        (pos k *ℤ (value_at store c +ℤ pos (picked_cost state.plan.choices prefix))) ≤ℤ pos (cost state.plan k q)
+    flow-bounds k q sound begins allowed =
+        let worth : value_at store c ≡ value_of_pairs state (keyed_pairs c.pairs) = value-pairs state (edges_of store.table) (units_in c.pairs) (keyed_pairs c.pairs) flow-list in
+        subst (λ (v : ℤ). (pos k *ℤ (v +ℤ pos (picked_cost state.plan.choices prefix))) ≤ℤ pos (cost state.plan k q)) (sym worth)
+        (pairs-bound state prefix (keyed_pairs c.pairs) k q sound flow-keyed flow-settled allowed begins)
 
 -- and so do the costs picked there, where they are enough
 pub empty-shown : (state : State) (prefix : List Pick) (best : Incumbent) → IsEnough state.plan best prefix (pos 0) → IsBoundedBy state best.branch best.cost prefix []

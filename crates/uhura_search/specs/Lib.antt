@@ -1,9 +1,14 @@
 pub mod Answer
 pub mod Appended
 pub mod Asked
+pub mod Bounds
 pub mod Closed
+pub mod Fronts
+pub mod Guards
+pub mod Held
 pub mod Known
 pub mod Learning
 pub mod Moving
+pub mod Revised
 pub mod Searcher
 pub mod Shut

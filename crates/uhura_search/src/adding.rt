@@ -16,7 +16,7 @@ ghost use Rattle.uhura_veto.specs.State.{State};
 ghost use Rattle.uhura_search.specs.Moving.{AreAmong, AreListed, active_edges};
 ghost use Rattle.uhura_veto.specs.declared.veto.Veto.{Veto};
 ghost use Rattle.uhura_search.specs.Asked.{LearnsSome, LearnsOrStops};
-ghost use Rattle.uhura_search.specs.Learning.{IsReady, HasAddedAt, IsBelow, AreCounts, StandsAt, IsWorthMore, IsShutByValue};
+ghost use Rattle.uhura_search.specs.Learning.{IsReady, HasAddedAt, IsBelow, AreCounts, IsWorthMore, IsShutByValue};
 
 use crate::learning::Learning;
 use crate::shut::is_less;
@@ -72,7 +72,7 @@ pub(crate) fn add_stuck(
     add(learning, conflict, plan, branch)
 }
 
-/// Adds the flow's units, which are worth more than what is known of the branch at which it stands.
+/// Adds the flow's units, which are worth more than what is known of the branch. Its edges are active there.
 fn add_flow(
     learning: &mut Learning,
     alloc: Global,
@@ -81,7 +81,8 @@ fn add_flow(
 ) -> Result<(), AllocError>
     requires is_branch { IsBranch plan.now.choices branch.now }
     requires table { learning.old.store.table ≡ learning.old.table }
-    requires stands { StandsAt plan.now learning.old branch.now }
+    requires among { AreAmong (flow_edges learning.old.flow)
+        (active_edges learning.old.table plan.now branch.now) }
     requires more { IsWorthMore learning.old.store branch.now (net_value learning.old.flow.net) }
     ensures ok { OnOk result ((conflict : Learned) × IsFalse conflict.stuck
         × (value_at learning.new.store conflict ≡ net_value learning.old.flow.net)
@@ -106,7 +107,8 @@ fn is_worth_more(store: &Store, branch: &Branch, value: i128) -> bool
     }
 }
 
-/// Reads the flow and adds its units, where they are worth more than what is known of the branch at which it stands.
+/// Reads the flow and adds its units, where they are worth more than what is known of the branch. Its edges are active
+/// there.
 pub(crate) fn note_flow(
     learning: &mut Learning,
     alloc: Global,
@@ -116,7 +118,8 @@ pub(crate) fn note_flow(
 ) -> Result<(), AllocError>
     requires is_branch { IsBranch plan.now.choices branch.now }
     requires table { learning.old.store.table ≡ learning.old.table }
-    requires stands { StandsAt plan.now learning.old branch.now }
+    requires among { AreAmong (flow_edges learning.old.flow)
+        (active_edges learning.old.table plan.now branch.now) }
     requires counts { AreCounts learning.old }
     requires value { value ≡ net_value learning.old.flow.net }
     ensures learns { OnOk result (LearnsSome plan.now.choices learning.old learning.new) }

@@ -151,7 +151,7 @@ fn take_out(flow: &mut Flow, table: &EdgeTable, places: &[u32], active: &[bool])
 }
 
 /// Takes the edge out of a place, unless it is the given one.
-fn take_at(flow: &mut Flow, place: Place, edge: Option<Edge>)
+pub(crate) fn take_at(flow: &mut Flow, place: Place, edge: Option<Edge>)
     requires { place.0 < PLACES }
     ensures { HasTakenAt flow.old flow.new place.0 edge }
 {

@@ -1,10 +1,11 @@
 //! What is learned of a branch, and whether it becomes the best so far.
 ghost use Rattle.std.specs.Prelude.{◌≡◌, ◌≤◌, ◌^◌, ◌+ℤ◌, pos, IfSome, OnOk};
 ghost use Rattle.uhura_choice.specs.Branch.{IsBranch, picked_cost};
-ghost use Rattle.uhura_flow.specs.Flow.{IsFlow};
+ghost use Rattle.uhura_flow.specs.Flow.{flow_edges, IsFlow};
 ghost use Rattle.uhura_net.specs.Net.{net_value};
 ghost use Rattle.uhura_veto.specs.State.{State};
-ghost use Rattle.uhura_search.specs.Shut.{IsSmallCost, IsShut};
+ghost use Rattle.uhura_search.specs.Shut.{IsSmallCost, IsDear, IsShut};
+ghost use Rattle.uhura_search.specs.Moving.{AreAmong, active_edges};
 ghost use Rattle.uhura_search.specs.Closed.{NoneBegins};
 ghost use Rattle.uhura_search.specs.Asked.{LearnsOrStops};
 ghost use Rattle.uhura_search.specs.Learning.{IsReady, StandsAt, IsReachedAt, IsCostValue, IsBettered, Closes};
@@ -14,6 +15,7 @@ use crate::incumbent::Incumbent;
 use crate::learning::Learning;
 use crate::moving::{Moved, move_to};
 use crate::shut::is_dear;
+use crate::stepping::{Stop, step};
 use std::alloc::{AllocError, Global};
 use uhura_choice::{Branch, picked_cost};
 use uhura_flow::Flow;
@@ -39,7 +41,7 @@ fn cost_with(plan: &Plan, branch: &Branch, value: i128) -> u128
 }
 
 /// The value of a flow.
-fn value_of(flow: &Flow) -> i128
+pub(crate) fn value_of(flow: &Flow) -> i128
     ensures value { result ≡ net_value flow.now.net }
     ensures cost { IsCostValue result }
     ensures sound { IsFlow flow.now }
@@ -92,9 +94,33 @@ fn look(
     Ok(())
 }
 
-/// Learns of a branch of which no prefix is shut, so that it is: that the flow is stuck on the way to it, or what the
-/// flow is worth there. Where that isn't enough for the best so far, the branch is the best from then on.
-pub(crate) fn learn(
+/// Learns what the flow is worth, which is enough for the best so far. Its edges are active in the branch.
+fn learn_dear(
+    learning: &mut Learning,
+    best: &Option<Incumbent>,
+    alloc: Global,
+    plan: &Plan,
+    vetoes: &Vetoes,
+    branch: &Branch,
+) -> Result<(), AllocError>
+    requires is_branch { IsBranch plan.now.choices branch.now }
+    requires ready { IsReady (record { plan = plan.now; vetoes = vetoes.now }) learning.old }
+    requires among { AreAmong (flow_edges learning.old.flow)
+        (active_edges learning.old.table plan.now branch.now) }
+    requires dear { IsDear plan.now best.now branch.now (net_value learning.old.flow.net) }
+    requires reached { let state : State = record { plan = plan.now; vetoes = vetoes.now } in
+        IfSome best.now (IsReachedAt state) }
+    ensures closes { let state : State = record { plan = plan.now; vetoes = vetoes.now } in
+        OnOk result (Closes state learning.old learning.new best.now best.now branch.now) }
+    ensures stops { LearnsOrStops plan.now.choices learning.old learning.new }
+    ensures ready { IsReady (record { plan = plan.now; vetoes = vetoes.now }) learning.new }
+{
+    let value = value_of(&learning.flow);
+    note_flow(learning, alloc, plan, branch, value)
+}
+
+/// Learns of a branch with all its edges: that the flow is stuck on the way to it, or what the flow is worth there.
+fn learn_whole(
     learning: &mut Learning,
     best: &mut Option<Incumbent>,
     alloc: Global,
@@ -117,5 +143,35 @@ pub(crate) fn learn(
     match move_to(&mut learning.flow, &learning.table, places, plan, branch) {
         Moved::Stuck => add_stuck(learning, alloc, plan, branch),
         Moved::Holds => look(learning, best, alloc, plan, vetoes, branch),
+    }
+}
+
+/// Learns of a branch of which no prefix is shut, so that it is: that the flow is stuck on the way to it, or is worth
+/// enough there for the best so far, at its first picks if it may be. Where it isn't worth enough, the branch is the
+/// best from then on.
+pub(crate) fn learn(
+    learning: &mut Learning,
+    best: &mut Option<Incumbent>,
+    alloc: Global,
+    plan: &Plan,
+    vetoes: &Vetoes,
+    branch: &Branch,
+) -> Result<(), AllocError>
+    requires is_branch { IsBranch plan.now.choices branch.now }
+    requires ready { IsReady (record { plan = plan.now; vetoes = vetoes.now }) learning.old }
+    requires reached { let state : State = record { plan = plan.now; vetoes = vetoes.now } in
+        IfSome best.old (IsReachedAt state) }
+    requires open { let state : State = record { plan = plan.now; vetoes = vetoes.now } in
+        NoneBegins (IsShut state learning.old.store best.old) branch.now }
+    ensures closes { let state : State = record { plan = plan.now; vetoes = vetoes.now } in
+        OnOk result (Closes state learning.old learning.new best.old best.new branch.now) }
+    ensures stops { LearnsOrStops plan.now.choices learning.old learning.new }
+    ensures ready { IsReady (record { plan = plan.now; vetoes = vetoes.now }) learning.new }
+{
+    let places = learning.places.as_slice();
+    match step(&mut learning.flow, &learning.table, places, plan, best, branch) {
+        Stop::Stuck => add_stuck(learning, alloc, plan, branch),
+        Stop::Dear => learn_dear(learning, best, alloc, plan, vetoes, branch),
+        Stop::Open => learn_whole(learning, best, alloc, plan, vetoes, branch),
     }
 }

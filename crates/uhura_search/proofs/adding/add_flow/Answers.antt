@@ -6,7 +6,6 @@ use Rattle.uhura_net.specs.Net.{net_value}
 use Rattle.uhura_flow.specs.Flow.{flow_edges, flow_units}
 use Rattle.uhura_conflict.specs.Learned.{IsValid, flow_value}
 use Rattle.uhura_conflict.specs.Store.{value_at}
-use Rattle.uhura_search.specs.Moving.{AreAmong, active_edges}
 use Rattle.uhura_search.proofs.Active.{used-together}
 use Rattle.uhura_search.proofs.Valid.{flow-valid, flow-worth, flow-applies, net-value}
 use Rattle.uhura_search.proofs.Values.{below-exceeds}
@@ -15,35 +14,31 @@ use Rattle.uhura_search.proofs.adding.add_flow.Goals as goal
 pub flow-requires : goal.flow-requires
 flow-requires c =
     let learning = c.args.learning.now in
-    let among : AreAmong (flow_edges learning.flow) (active_edges learning.table c.args.plan.now c.args.branch.now) = λ place edge is. sym (c.requires.stands place) ∙ is in
     record {
-      together = used-together learning.table c.args.plan.now c.args.branch.now c.choices.ensures.sound (flow_edges learning.flow) among (flow_units learning.flow) c.value.ensures.sound.sound.circulates c.requires.is_branch;
+      together = used-together learning.table c.args.plan.now c.args.branch.now c.choices.ensures.sound (flow_edges learning.flow) c.requires.among (flow_units learning.flow) c.value.ensures.sound.sound.circulates c.requires.is_branch;
     }
 
 pub add-requires-clause-valid : goal.add-requires-clause-valid
 add-requires-clause-valid c =
     let learning = c.args.learning.now in
     let conflict = c.in_ok-conflict.conflict in
-    let among : AreAmong (flow_edges learning.flow) (active_edges learning.table c.args.plan.now c.args.branch.now) = λ place edge is. sym (c.requires.stands place) ∙ is in
     subst (λ (t : List (Option Edge)). IsValid (edges_of t) conflict) (sym c.requires.table)
-    (flow-valid learning.table c.args.plan.now c.args.branch.now c.choices.ensures.sound (flow_edges learning.flow) among (flow_units learning.flow) c.value.ensures.sound.sound.circulates conflict
+    (flow-valid learning.table c.args.plan.now c.args.branch.now c.choices.ensures.sound (flow_edges learning.flow) c.requires.among (flow_units learning.flow) c.value.ensures.sound.sound.circulates conflict
     c.in_ok-conflict.ensures.flow c.in_ok-conflict.ensures.units)
 
 pub add-requires-clause-applies : goal.add-requires-clause-applies
 add-requires-clause-applies c =
     let learning = c.args.learning.now in
     let conflict = c.in_ok-conflict.conflict in
-    let among : AreAmong (flow_edges learning.flow) (active_edges learning.table c.args.plan.now c.args.branch.now) = λ place edge is. sym (c.requires.stands place) ∙ is in
-    flow-applies learning.table c.args.plan.now c.args.branch.now c.choices.ensures.sound (flow_edges learning.flow) among (flow_units learning.flow) c.value.ensures.sound.sound.circulates conflict
+    flow-applies learning.table c.args.plan.now c.args.branch.now c.choices.ensures.sound (flow_edges learning.flow) c.requires.among (flow_units learning.flow) c.value.ensures.sound.sound.circulates conflict
     c.in_ok-conflict.ensures.flow c.in_ok-conflict.ensures.units c.in_ok-conflict.ensures.literals
 
 pub add-requires-clause-exceeds : goal.add-requires-clause-exceeds
 add-requires-clause-exceeds c =
     let learning = c.args.learning.now in
     let conflict = c.in_ok-conflict.conflict in
-    let among : AreAmong (flow_edges learning.flow) (active_edges learning.table c.args.plan.now c.args.branch.now) = λ place edge is. sym (c.requires.stands place) ∙ is in
     let worth : flow_value (edges_of learning.table) conflict.pairs ≡ net_value learning.flow.net =
-    flow-worth learning.table c.args.plan.now c.args.branch.now c.choices.ensures.sound (flow_edges learning.flow) among (flow_units learning.flow) c.value.ensures.sound.sound.circulates conflict
+    flow-worth learning.table c.args.plan.now c.args.branch.now c.choices.ensures.sound (flow_edges learning.flow) c.requires.among (flow_units learning.flow) c.value.ensures.sound.sound.circulates conflict
     c.in_ok-conflict.ensures.flow c.in_ok-conflict.ensures.units ∙ sym (net-value learning.flow.net) in
     let held : value_at learning.store conflict ≡ net_value learning.flow.net = ap (λ (t : List (Option Edge)). flow_value (edges_of t) conflict.pairs) c.requires.table ∙ worth in
     record {
@@ -56,9 +51,8 @@ pub returns-clause-ok : goal.returns-clause-ok
 returns-clause-ok c =
     let learning = c.args.learning.now in
     let conflict = c.in_ok-conflict.conflict in
-    let among : AreAmong (flow_edges learning.flow) (active_edges learning.table c.args.plan.now c.args.branch.now) = λ place edge is. sym (c.requires.stands place) ∙ is in
     let worth : flow_value (edges_of learning.table) conflict.pairs ≡ net_value learning.flow.net =
-    flow-worth learning.table c.args.plan.now c.args.branch.now c.choices.ensures.sound (flow_edges learning.flow) among (flow_units learning.flow) c.value.ensures.sound.sound.circulates conflict
+    flow-worth learning.table c.args.plan.now c.args.branch.now c.choices.ensures.sound (flow_edges learning.flow) c.requires.among (flow_units learning.flow) c.value.ensures.sound.sound.circulates conflict
     c.in_ok-conflict.ensures.flow c.in_ok-conflict.ensures.units ∙ sym (net-value learning.flow.net) in
     on_ok_weaker c.add.result
     (λ has. (conflict, c.in_ok-conflict.ensures.flow, ap (λ (t : List (Option Edge)). flow_value (edges_of t) conflict.pairs) (has.adds.table ∙ c.requires.table) ∙ worth, has))

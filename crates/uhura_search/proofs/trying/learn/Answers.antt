@@ -1,14 +1,11 @@
-use Rattle.std.proofs.Common.{[], sym, subst, refl, append-nil}
+use Rattle.std.proofs.Common.{◌≡◌, [], inl, inr, sym, refl, append-nil}
 use Rattle.std.proofs.lemmas.Result.{on_ok_weaker}
 use Rattle.uhura_veto.specs.State.{State}
 use Rattle.uhura_search.specs.declared.learning.Learning.{Learning}
-use Rattle.uhura_search.specs.Asked.{LearnsOrStops}
 use Rattle.uhura_search.specs.Learning.{KeepsLearned}
-use Rattle.uhura_search.proofs.Learns.{learns-one, some-or_stops, stops-settled}
 use Rattle.uhura_search.proofs.Ready.{either}
 use Rattle.uhura_search.proofs.Reasons.{stuck-shut}
-use Rattle.uhura_search.proofs.Still.{shut-more}
-use Rattle.uhura_search.proofs.Values.{added-shut}
+use Rattle.uhura_search.proofs.Resuming.{stuck-closes, stuck-stops, closes-after}
 use Rattle.uhura_search.proofs.trying.learn.Goals as goal
 
 pub add_stuck-requires-clause-unknown : goal.add_stuck-requires-clause-unknown
@@ -20,27 +17,29 @@ pub returns-in-Stuck-clause-closes : goal.returns-in-Stuck-clause-closes
 returns-in-Stuck-clause-closes c =
     let state : State = record { plan = c.args.plan.now; vetoes = c.args.vetoes.now } in
     let old = c.args.learning.now in
-    let stuck : Learning = record old { flow = c.move_to.new.flow } in
-    let new = c.add_stuck.new.learning in
-    let branch = c.args.branch.now in
-    let best = c.args.best.now in
+    let stuck : Learning = record old { flow = c.step.new.flow } in
     let keeps : KeepsLearned old stuck = record { store = refl; added = refl; table = refl; pushes = c.in-Stuck.ensures.pushes } in
     on_ok_weaker c.add_stuck.result
-    (λ has. record {
-      learns = learns-one c.args.plan.now old stuck new branch has.0 c.requires.is_branch keeps c.in-Stuck.ensures.settles has.2;
-      reached = c.requires.reached;
-      shut = added-shut state stuck new branch has.0 best has.1 has.2;
-      kept = λ front shut. shut-more state old.store new.store best front has.2.key has.0 has.2.adds shut;
-    })
+    (λ has. stuck-closes state old stuck c.add_stuck.new.learning c.args.branch.now c.requires.is_branch keeps c.in-Stuck.ensures.settles c.args.best.now c.requires.reached has)
     c.add_stuck.ensures.ok
 
 pub returns-in-Stuck-clause-stops : goal.returns-in-Stuck-clause-stops
 returns-in-Stuck-clause-stops c =
+    let state : State = record { plan = c.args.plan.now; vetoes = c.args.vetoes.now } in
     let old = c.args.learning.now in
-    let stuck : Learning = record old { flow = c.move_to.new.flow } in
+    let stuck : Learning = record old { flow = c.step.new.flow } in
     let new = c.add_stuck.new.learning in
-    let choices = c.args.plan.now.choices in
     let keeps : KeepsLearned old stuck = record { store = refl; added = refl; table = refl; pushes = c.in-Stuck.ensures.pushes } in
-    either c.add_stuck.result c.add_stuck.ensures.ok c.add_stuck.ensures.err
-    (λ has. some-or_stops choices old new (learns-one c.args.plan.now old stuck new c.args.branch.now has.0 c.requires.is_branch keeps c.in-Stuck.ensures.settles has.2))
-    (λ same. subst (λ (l : Learning). LearnsOrStops choices old l) (sym same) (stops-settled choices old stuck c.requires.ready.counts keeps c.in-Stuck.ensures.settles))
+    let stops = stuck-stops state old stuck new c.args.branch.now c.requires.is_branch keeps c.in-Stuck.ensures.settles c.requires.ready.counts in
+    either c.add_stuck.result c.add_stuck.ensures.ok c.add_stuck.ensures.err (λ has. stops (inl has)) (λ same. stops (inr same))
+
+pub returns-in-Dear-clause-closes : goal.returns-in-Dear-clause-closes
+returns-in-Dear-clause-closes c =
+    let state : State = record { plan = c.args.plan.now; vetoes = c.args.vetoes.now } in
+    let old = c.args.learning.now in
+    let moved : Learning = record old { flow = c.step.new.flow } in
+    let unsettled = c.in-Dear.ensures.unsettled in
+    let keeps : KeepsLearned old moved = record { store = refl; added = refl; table = refl; pushes = unsettled.pushes } in
+    on_ok_weaker c.learn_dear.result
+    (λ closes. closes-after state old moved c.learn_dear.new.learning c.args.best.now c.args.best.now c.args.branch.now keeps unsettled.settles closes)
+    c.learn_dear.ensures.closes

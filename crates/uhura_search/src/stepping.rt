@@ -1,0 +1,57 @@
+//! The way of the flow to a branch, pick by pick.
+ghost use Rattle.std.specs.Prelude.{IfSome};
+ghost use Rattle.uhura_choice.specs.Branch.{IsBranch};
+ghost use Rattle.uhura_flow.specs.Flow.{flow_edges};
+ghost use Rattle.uhura_net.specs.Circulation.{edges_of};
+ghost use Rattle.uhura_search.specs.Fronts.{IsStopped};
+ghost use Rattle.uhura_search.specs.Moving.{AreAmong, AreListed, HasFlowBounds};
+ghost use Rattle.uhura_search.specs.Shut.{IsSmallCost};
+
+use crate::incumbent::Incumbent;
+use crate::moving::{Moved, move_to};
+use crate::shut::is_dear;
+use crate::trying::value_of;
+use uhura_choice::Branch;
+use uhura_flow::Flow;
+use uhura_net::EdgeTable;
+use uhura_plan::Plan;
+use uhura_shows::front_of;
+
+/// Where the flow stops: it is stuck, or worth enough for the best so far, or neither before the whole branch.
+#[derive(Clone, Copy, Debug, PartialEq, Eq)]
+pub(crate) enum Stop {
+    Stuck,
+    Dear,
+    Open,
+}
+
+/// Moves the flow to the first picks of the branch, one more at a time, until it stops. So what is learned there has
+/// as few literals as may be.
+pub(crate) fn step(
+    flow: &mut Flow,
+    table: &EdgeTable,
+    places: &[u32],
+    plan: &Plan,
+    best: &Option<Incumbent>,
+    branch: &Branch,
+) -> Stop
+    requires bounds { HasFlowBounds table.now }
+    requires listed { AreListed places.now table.now }
+    requires present { AreAmong (flow_edges flow.old) (edges_of table.now) }
+    requires is_branch { IsBranch plan.now.choices branch.now }
+    requires branch { IfSome best.now (λ i. IsBranch plan.now.choices i.branch) }
+    requires small { IfSome best.now IsSmallCost }
+    ensures { IsStopped flow.old flow.new table.now plan.now best.now branch.now result }
+{
+    for len in 0..branch.entries().len() {
+        let front = front_of(plan, branch, len);
+        match move_to(flow, table, places, plan, &front) {
+            Moved::Stuck => return Stop::Stuck,
+            Moved::Holds => {}
+        }
+        if is_dear(plan, best, branch, value_of(flow)) {
+            return Stop::Dear;
+        }
+    }
+    Stop::Open
+}
