@@ -156,7 +156,7 @@ reached-small state (Some best) reached = reached.small
 module _ (state : State) (old new : Learning) (branch : List Pick) (value : ℤ) (before after : Option Incumbent) (ready : IsReady state old) (is_branch : IsBranch state.plan.choices branch) (stands : StandsAt state.plan old branch)
     (flow : IsFlow old.flow) (worth : value ≡ net_value old.flow.net) (reached : IfSome before (IsReachedAt state)) (none : NoneBegins (IsShut state old.store before) branch)
     (bettered : IsBettered state.plan branch value before after) (small : IfSome after IsSmallCost) where
-  looked-reached : IfSome after (IsReachedAt state)
+  pub looked-reached : IfSome after (IsReachedAt state)
   looked-reached = by bettered
     where
       by : IsBettered state.plan branch value before after → IfSome after (IsReachedAt state)

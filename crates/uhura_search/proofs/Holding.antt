@@ -120,7 +120,7 @@ trimmed-for state old new most count trims sound known =
     }
 
 pub trimmed-learning : (state : State) (learning : Learning) (store : Stored) (most count : ℕ) → Trims learning.store store most count → IsStore store → IsLearningFor state learning →
-    IsLearningFor state (record { flow = learning.flow; table = learning.table; store = store; places = learning.places; added = learning.added })
+    IsLearningFor state (record learning { store = store })
 trimmed-learning state learning store most count trims sound kept = record {
   store = trimmed-for state learning.store store most count trims sound kept.store;
   table = trims.table ∙ kept.table;

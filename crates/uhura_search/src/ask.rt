@@ -15,6 +15,7 @@ use crate::moving::list_places;
 use crate::solving::solve;
 use crate::{LeafNote, Outcome};
 use std::alloc::{AllocError, Global};
+use uhura_choice::Prefix;
 use uhura_plan::Plan;
 use uhura_veto::Vetoes;
 
@@ -59,6 +60,7 @@ fn make_ready(learning: &mut Learning, plan: &Plan, vetoes: &Vetoes) -> Result<(
     // By their types the plan and the vetoes are sound, and the counts within them.
     let _ = (plan.choices(), vetoes.count(), learning.flow.settles());
     let _added = learning.added;
+    learning.stands = Prefix::empty();
     list_places(&learning.table, &mut learning.places)
 }
 

@@ -21,6 +21,7 @@ mod outcome;
 mod searcher;
 mod shut;
 mod solving;
+mod starting;
 mod stepping;
 mod taking;
 mod trying;
