@@ -13,6 +13,7 @@ use crate::incumbent::Incumbent;
 use crate::learning::Learning;
 use crate::moving::list_places;
 use crate::solving::solve;
+use crate::trying::copy_of;
 use crate::{LeafNote, Outcome};
 use std::alloc::{AllocError, Global};
 use uhura_choice::Prefix;
@@ -86,6 +87,7 @@ fn found(
     ensures entered { IfOk result (LeavesEntered learning.new.store) }
     ensures kept { IsLearningFor (record { plan = plan.now; vetoes = vetoes.now }) learning.new }
 {
+    learning.last = copy_of(plan, &best.branch);
     let potentials = solve(learning, alloc, plan, vetoes, &best)?;
     Ok(Outcome::Found {
         branch: best.branch,
