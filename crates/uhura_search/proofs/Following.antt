@@ -1,5 +1,5 @@
 -- A prefix that goes on by children, one after another, is a branch in the end.
-use Rattle.std.proofs.Common.{◌≡◌, ℕ, ◌+◌, ◌<◌, List, [], ◌∷◌, length, Some, ap, ◌∙◌, arith, length-append}
+use Rattle.std.proofs.Common.{◌≡◌, ℕ, ◌+◌, List, [], ◌∷◌, length, Some, ap, ◌∙◌, arith, length-append}
 use Rattle.std.specs.Prelude.{slice_get}
 use Rattle.uhura_plan.specs.declared.choice.Choice.{Choice}
 use Rattle.uhura_choice.specs.declared.prefix.Pick.{Pick}

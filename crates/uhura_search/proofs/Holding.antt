@@ -1,6 +1,6 @@
 -- What a searcher keeps true.
-use Rattle.std.proofs.Common.{◌≡◌, ◌≢◌, ◌⊎◌, ℕ, ◌<◌, Bool, true, false, true≢false, List, [], ◌∷◌, length, take, get_or, replicate, Option, Some, None, inl, inr, ap, sym, subst, refl, ◌∙◌, arith, AllPairs}
-use Rattle.std.specs.Prelude.{ℤ, Contains, IsTrue, IsFalse, IsSome, IfSome, option_map}
+use Rattle.std.proofs.Common.{◌≡◌, ℕ, Bool, true, false, true≢false, List, [], length, get_or, replicate, Option, Some, None, inl, inr, ap, sym, subst, refl, ◌∙◌, arith}
+use Rattle.std.specs.Prelude.{ℤ, IsTrue, IsSome, option_map}
 use Rattle.std.proofs.Math.ListN.{get_or-eq_default}
 use Rattle.std.proofs.lemmas.Bool.{cases_lt}
 use Rattle.std.proofs.lemmas.List.{length-replicate, get_or-replicate}

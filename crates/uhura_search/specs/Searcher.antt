@@ -1,6 +1,6 @@
 -- What a searcher keeps between questions, and what a question leaves of it.
 use Rattle.std.specs.Prelude.{◌≡◌, ◌⊎◌, ℕ, ◌+◌, ◌≤◌, ℤ, Bool, false, IsTrue, IsFalse, List, [], length, replicate}
-use Rattle.std.specs.Prelude.{Option, None, Some, IsSome, IfSome, IfOk, OnOk, OnErr, Result, option_map}
+use Rattle.std.specs.Prelude.{Option, None, Some, IsSome, IfOk, OnOk, OnErr, Result}
 use Rattle.std.specs.Bool.{MatchBool}
 use Rattle.std.specs.declared.alloc.AllocError.{AllocError}
 use Rattle.uhura_plan.specs.declared.guard.Literal.{Literal}

@@ -39,7 +39,7 @@ impl Model for Searcher {
     ghost Value = { Searched };
 
     ghost use Rattle.uhura_search.specs.Bounds.{IsDual, AllBound};
-ghost use Rattle.uhura_search.specs.Held.{shown_as, IsHeldSearcher};
+    ghost use Rattle.uhura_search.specs.Held.{shown_as, IsHeldSearcher};
 
     ghost view = { λ s. shown_as s.learning s.guards.items s.answer s.stands s.filled };
 

@@ -39,7 +39,13 @@ pub(crate) fn start(
     ensures ready { IsReady (record { plan = plan.now; vetoes = vetoes.now }) learning.new }
 {
     let mut best = None;
-    let like = follow(plan, vetoes, &learning.store, Prefix::empty(), &learning.last);
+    let like = follow(
+        plan,
+        vetoes,
+        &learning.store,
+        Prefix::empty(),
+        &learning.last,
+    );
     consider(learning, &mut best, alloc, plan, vetoes, &like)?;
     for _round in 0..ROUNDS {
         if !change_each(learning, &mut best, alloc, plan, vetoes)? {
@@ -146,13 +152,7 @@ fn consider(
 
 /// A branch with this prefix that has the picks of another where it can, and else the cheapest. What is shut is
 /// avoided where another pick isn't.
-fn follow(
-    plan: &Plan,
-    vetoes: &Vetoes,
-    store: &Store,
-    mut prefix: Prefix,
-    other: &Prefix,
-) -> Branch
+fn follow(plan: &Plan, vetoes: &Vetoes, store: &Store, mut prefix: Prefix, other: &Prefix) -> Branch
     requires { IsPrefix plan.now.choices prefix }
     ensures { IsBranch plan.now.choices result }
 {

@@ -170,7 +170,15 @@ pub(crate) fn learn(
 {
     let places = learning.places.as_slice();
     let stands = &mut learning.stands;
-    match step(&mut learning.flow, &learning.table, places, stands, plan, best, branch) {
+    match step(
+        &mut learning.flow,
+        &learning.table,
+        places,
+        stands,
+        plan,
+        best,
+        branch,
+    ) {
         Stop::Stuck => add_stuck(learning, alloc, plan, branch),
         Stop::Dear => learn_dear(learning, best, alloc, plan, vetoes, branch),
         Stop::Open => learn_whole(learning, best, alloc, plan, vetoes, branch),

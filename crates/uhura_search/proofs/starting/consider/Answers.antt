@@ -28,8 +28,8 @@ returns-in-Stuck-clause-tries c =
     let keeps : KeepsLearned old stuck = record { store = refl; added = refl; table = refl; pushes = c.in-Stuck.ensures.pushes } in
     on_ok_weaker c.add_stuck.result
     (λ has.
-        let closes = stuck-closes state old stuck c.add_stuck.new.learning c.args.branch.now c.requires.is_branch keeps c.in-Stuck.ensures.settles c.args.best.now c.requires.reached has in
-        record { learns = closes.learns; reached = c.requires.reached })
+    let closes = stuck-closes state old stuck c.add_stuck.new.learning c.args.branch.now c.requires.is_branch keeps c.in-Stuck.ensures.settles c.args.best.now c.requires.reached has in
+    record { learns = closes.learns; reached = c.requires.reached })
     c.add_stuck.ensures.ok
 
 pub returns-in-Stuck-clause-stops : goal.returns-in-Stuck-clause-stops

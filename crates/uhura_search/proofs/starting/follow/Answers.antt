@@ -1,4 +1,4 @@
-use Rattle.std.proofs.Common.{◌≡◌, length, ap, subst, ◌∙◌, arith}
+use Rattle.std.proofs.Common.{◌≡◌, length, ap, arith}
 use Rattle.uhura_choice.proofs.Prefixes.{sound-have_alternatives, prefix-few}
 use Rattle.uhura_shows.proofs.Behind.{some-child}
 use Rattle.uhura_search.proofs.Following.{further, whole}
