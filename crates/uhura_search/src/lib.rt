@@ -1,7 +1,8 @@
 //! The answer to a question: the branch of a cheapest proposal, with leaves that show it (`specs/Answer.antt`). The
 //! branches are walked in order, and those of a prefix that is shut (`specs/Shut.antt`) are passed at once; then leaves
-//! cover them all (`specs/Appended.antt`). What is learned is kept for later questions (`specs/Searcher.antt`).
-//! A flow is moved from branch to branch (`specs/Moving.antt`).
+//! cover them all (`specs/Appended.antt`). At a branch that isn't shut one flow, which is moved from branch to branch
+//! (`specs/Moving.antt`), is stuck or worth something: that is learned, and kept for later questions
+//! (`specs/Learning.antt`, `specs/Asked.antt`, `specs/Searcher.antt`).
 #![tactic(auto)]
 
 mod adding;

@@ -34,7 +34,13 @@ pub(crate) fn solve(
     ensures kept { IsLearningFor (record { plan = plan.now; vetoes = vetoes.now }) learning.new }
 {
     let places = learning.places.as_slice();
-    match move_to(&mut learning.flow, &learning.table, places, plan, &best.branch) {
+    match move_to(
+        &mut learning.flow,
+        &learning.table,
+        places,
+        plan,
+        &best.branch,
+    ) {
         Moved::Stuck => unreachable!(),
         Moved::Holds => {}
     }
