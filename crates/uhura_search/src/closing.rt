@@ -21,7 +21,6 @@ use uhura_veto::Vetoes;
 /// Closes a branch: by its shortest prefix that is shut, or, where none is, by itself, when it was learned of.
 fn close(
     learning: &mut Learning,
-    at: &mut Prefix,
     best: &mut Option<Incumbent>,
     alloc: Global,
     plan: &Plan,
@@ -41,7 +40,7 @@ fn close(
     if let Some(prefix) = shut_front(plan, vetoes, &learning.store, best, branch) {
         return Ok(prefix);
     }
-    learn(learning, at, best, alloc, plan, vetoes, branch)?;
+    learn(learning, best, alloc, plan, vetoes, branch)?;
     Ok(copy_of(plan, branch))
 }
 
@@ -62,11 +61,10 @@ pub(crate) fn close_all(
     ensures stops { LearnsOrStops plan.now.choices learning.old learning.new }
     ensures ready { IsReady (record { plan = plan.now; vetoes = vetoes.now }) learning.new }
 {
-    let mut at = Prefix::empty();
     let mut best = None;
     let mut branch = first_branch(plan);
     'walk: loop {
-        let prefix = close(learning, &mut at, &mut best, alloc, plan, vetoes, &branch)?;
+        let prefix = close(learning, &mut best, alloc, plan, vetoes, &branch)?;
         let Some(next) = next_branch_behind(plan, &prefix) else {
             return Ok(best);
         };

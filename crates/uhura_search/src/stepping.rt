@@ -1,5 +1,5 @@
 //! The way of the flow to a branch, pick by pick.
-ghost use Rattle.std.specs.Prelude.{◌≤◌, IfSome, length};
+ghost use Rattle.std.specs.Prelude.{IfSome};
 ghost use Rattle.uhura_choice.specs.Branch.{IsBranch};
 ghost use Rattle.uhura_flow.specs.Flow.{flow_edges};
 ghost use Rattle.uhura_net.specs.Circulation.{edges_of};
@@ -11,7 +11,7 @@ use crate::incumbent::Incumbent;
 use crate::moving::{Moved, move_to};
 use crate::shut::is_dear;
 use crate::trying::value_of;
-use uhura_choice::{Branch, Prefix};
+use uhura_choice::Branch;
 use uhura_flow::Flow;
 use uhura_net::EdgeTable;
 use uhura_plan::Plan;
@@ -26,11 +26,9 @@ pub(crate) enum Stop {
 }
 
 /// Moves the flow to the first picks of the branch, one more at a time, until it stops. So what is learned there has
-/// as few literals as may be. It begins with the picks that the branch shares with those at which the flow stands, as
-/// far as is known, and those at which it stops are kept: they are a matter of time alone.
+/// as few literals as may be.
 pub(crate) fn step(
     flow: &mut Flow,
-    at: &mut Prefix,
     table: &EdgeTable,
     places: &[u32],
     plan: &Plan,
@@ -45,11 +43,9 @@ pub(crate) fn step(
     requires small { IfSome best.now IsSmallCost }
     ensures { IsStopped flow.old flow.new table.now plan.now best.now branch.now result }
 {
-    for len in shared(at, branch)..branch.entries().len() {
+    for len in 0..branch.entries().len() {
         let front = front_of(plan, branch, len);
-        let moved = move_to(flow, table, places, plan, &front);
-        *at = front;
-        match moved {
+        match move_to(flow, table, places, plan, &front) {
             Moved::Stuck => return Stop::Stuck,
             Moved::Holds => {}
         }
@@ -58,17 +54,4 @@ pub(crate) fn step(
         }
     }
     Stop::Open
-}
-
-/// How many first picks both have.
-fn shared(one: &Prefix, other: &Prefix) -> usize
-    ensures { result ≤ length other.now }
-{
-    let picks = one.entries();
-    for (len, pick) in other.entries().iter().enumerate() {
-        if picks.get(len) != Some(pick) {
-            return len;
-        }
-    }
-    other.entries().len()
 }

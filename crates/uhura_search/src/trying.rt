@@ -17,7 +17,7 @@ use crate::moving::{Moved, move_to};
 use crate::shut::is_dear;
 use crate::stepping::{Stop, step};
 use std::alloc::{AllocError, Global};
-use uhura_choice::{Branch, Prefix, picked_cost};
+use uhura_choice::{Branch, picked_cost};
 use uhura_flow::Flow;
 use uhura_plan::Plan;
 use uhura_shows::front_of;
@@ -148,10 +148,9 @@ fn learn_whole(
 
 /// Learns of a branch of which no prefix is shut, so that it is: that the flow is stuck on the way to it, or is worth
 /// enough there for the best so far, at its first picks if it may be. Where it isn't worth enough, the branch is the
-/// best from then on. The picks at which the flow is left are kept.
+/// best from then on.
 pub(crate) fn learn(
     learning: &mut Learning,
-    at: &mut Prefix,
     best: &mut Option<Incumbent>,
     alloc: Global,
     plan: &Plan,
@@ -170,12 +169,9 @@ pub(crate) fn learn(
     ensures ready { IsReady (record { plan = plan.now; vetoes = vetoes.now }) learning.new }
 {
     let places = learning.places.as_slice();
-    match step(&mut learning.flow, at, &learning.table, places, plan, best, branch) {
+    match step(&mut learning.flow, &learning.table, places, plan, best, branch) {
         Stop::Stuck => add_stuck(learning, alloc, plan, branch),
         Stop::Dear => learn_dear(learning, best, alloc, plan, vetoes, branch),
-        Stop::Open => {
-            *at = copy_of(plan, branch);
-            learn_whole(learning, best, alloc, plan, vetoes, branch)
-        }
+        Stop::Open => learn_whole(learning, best, alloc, plan, vetoes, branch),
     }
 }
