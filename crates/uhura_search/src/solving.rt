@@ -1,9 +1,7 @@
 //! The flow at the answered branch.
 ghost use Rattle.std.specs.Prelude.{◌≡◌, [], IfOk};
-ghost use Rattle.uhura_choice.specs.Branch.{IsBranch};
 ghost use Rattle.uhura_flow.specs.Flow.{IsFlow};
 ghost use Rattle.uhura_dual.specs.ReadOff.{ArePotentials};
-ghost use Rattle.uhura_veto.specs.State.{State};
 ghost use Rattle.uhura_search.specs.Asked.{HasLearned};
 ghost use Rattle.uhura_search.specs.Learning.{IsLearningFor, IsReady, StandsAt, IsReachedAt};
 
