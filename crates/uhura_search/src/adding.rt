@@ -59,7 +59,8 @@ pub(crate) fn add_stuck(
     requires is_branch { IsBranch plan.now.choices branch.now }
     requires table { learning.old.store.table ≡ learning.old.table }
     requires listed { AreListed learning.old.places.items learning.old.table }
-    requires walk { (edges : Edges) × AreAmong edges (active_edges learning.old.table plan.now branch.now)
+    requires walk { (edges : Edges)
+        × AreAmong edges (active_edges learning.old.table plan.now branch.now)
         × IsNegativeWalk (firm_edges edges) learning.old.flow.cycle }
     requires unknown { (key : ℕ) → IsBest learning.old.store branch.now (Stuck key) → ⊥ }
     ensures ok { OnOk result ((conflict : Learned) × IsTrue conflict.stuck
@@ -107,8 +108,8 @@ fn is_worth_more(store: &Store, branch: &Branch, value: i128) -> bool
     }
 }
 
-/// Reads the flow and adds its units, where they are worth more than what is known of the branch. Its edges are active
-/// there.
+/// Reads the flow and adds its units, where they are worth more than what is known of the branch. Its edges are
+/// active there.
 pub(crate) fn note_flow(
     learning: &mut Learning,
     alloc: Global,
