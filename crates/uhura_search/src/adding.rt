@@ -107,8 +107,8 @@ fn is_worth_more(store: &Store, branch: &Branch, value: i128) -> bool
     }
 }
 
-/// Reads the flow and adds its units, where they are worth more than what is known of the branch. Its edges are active
-/// there.
+/// Reads the flow and adds its units, where they are worth more than what is known of the branch. Its edges are
+/// active there.
 pub(crate) fn note_flow(
     learning: &mut Learning,
     alloc: Global,

@@ -20,9 +20,9 @@ use uhura_choice::Prefix;
 use uhura_plan::Plan;
 use uhura_veto::Vetoes;
 
-/// The first of the cheapest branches, or none, with leaves that show it. What is learned on the way is kept. The flow
-/// is read or found stuck once for each conflict that is added, and once more where there is an answer, or no memory
-/// for what was to be learned.
+/// The first of the cheapest branches, or none, with leaves that show it. What is learned on the way is kept. The
+/// flow is read or found stuck once for each conflict that is added, and once more where there is an answer, or no
+/// memory for what was to be learned.
 pub(crate) fn ask(
     learning: &mut Learning,
     alloc: Global,

@@ -45,8 +45,8 @@ fn close(
     Ok(copy_of(plan, branch))
 }
 
-/// Closes the branches in order, and answers the best of them, if anything is allowed in any. It begins with the best of
-/// some that were tried before. All branches of a prefix that is shut are passed at once.
+/// Closes the branches in order, and answers the best of them, if anything is allowed in any. It begins with the best
+/// of some that were tried before. All branches of a prefix that is shut are passed at once.
 pub(crate) fn close_all(
     learning: &mut Learning,
     alloc: Global,

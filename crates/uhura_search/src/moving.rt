@@ -46,8 +46,8 @@ pub(crate) fn list_places(table: &EdgeTable, places: &mut Vec<u32>) -> Result<()
 }
 
 /// Brings a flow to exactly the edges of the table that are active after the picks: first those go that are to go,
-/// then the loose ones come, and then the others. It stops at the first edge that the flow is stuck at. The places are
-/// those that have an edge, and no others are looked at.
+/// then the loose ones come, and then the others. It stops at the first edge that the flow is stuck at. The places
+/// are those that have an edge, and no others are looked at.
 pub(crate) fn move_to(
     flow: &mut Flow,
     table: &EdgeTable,
