@@ -22,7 +22,7 @@ use Rattle.uhura_net.specs.Walk.{IsNegativeWalk}
 use Rattle.uhura_worst.specs.Edges.{item_of, is_active_item, is_active_edge}
 use Rattle.uhura_worst.proofs.FirstItems.{requirement_in-member}
 use Rattle.uhura_dual.specs.Settled.{key_at}
-use Rattle.uhura_conflict.specs.Literals.{slot_of, slot_of_item, IsOfSlot, HasPlaceAmong, AreActiveTogether, AreUsedTogether, AreActiveAt}
+use Rattle.uhura_conflict.specs.Literals.{slot_of_item, IsOfSlot, AreActiveTogether, AreUsedTogether, AreActiveAt}
 use Rattle.uhura_search.specs.Moving.{AreAmong, AreListed, active_edges}
 use Rattle.uhura_search.proofs.FlowBounds.{key-there}
 use Rattle.uhura_search.proofs.Shown.{slot-item}

@@ -1,18 +1,15 @@
 -- What a branch costs beside the best so far.
-use Rattle.std.proofs.Common.{◌≡◌, ℕ, List, [], ◌∷◌, length, Option, Some, None, inl, inr, refl, sym, ap, subst, ◌∙◌, lit≤, append-nil, arith}
-use Rattle.std.specs.Prelude.{ℤ, pos, ◌+ℤ◌, ◌≤ℤ◌, ◌<ℤ◌, ◌^◌, ◌⊎◌, IfSome, is_some, option_map, find, Bool, true, false, if◌then◌else◌}
+use Rattle.std.proofs.Common.{◌≡◌, List, [], ◌∷◌, length, Option, Some, None, inl, inr, refl, sym, ap, subst, ◌∙◌, lit≤, append-nil, arith}
+use Rattle.std.specs.Prelude.{ℤ, pos, ◌+ℤ◌, ◌<ℤ◌, IfSome, is_some, option_map, find, Bool, true, false, if◌then◌else◌}
 use Rattle.std.specs.List.{list_any}
 use Rattle.std.proofs.Math.ListN.{get_or-eq_default}
 use Rattle.std.proofs.lemmas.Int.{ints, by_lt_z}
 use Rattle.uhura_plan.specs.Lists.{Lists}
 use Rattle.uhura_plan.specs.Sound.{IsSound}
-use Rattle.uhura_plan.specs.declared.choice.Choice.{Choice}
 use Rattle.uhura_choice.specs.declared.prefix.Pick.{Pick}
 use Rattle.uhura_choice.specs.Branch.{IsBranch, IsEarlier, picked_cost}
 use Rattle.uhura_choice.specs.Order.{IsFrontOf}
 use Rattle.uhura_choice.proofs.Earlier.{Compare, compare, earlier-irreflexive}
-use Rattle.uhura_choice.proofs.Prefixes.{length-follows}
-use Rattle.uhura_net.specs.Edges.{time_at}
 use Rattle.uhura_net.specs.Net.{net_value}
 use Rattle.uhura_flow.specs.Flow.{flow_edges, flow_units, flow_potentials, IsFlow}
 use Rattle.uhura_plan.specs.declared.key.EdgeKey.{EdgeKey}
@@ -40,7 +37,7 @@ use Rattle.uhura_search.specs.declared.learning.Learning.{Learning}
 use Rattle.uhura_search.specs.Shut.{IsSmallCost, IsEnough, IsDear, IsShut, IsBetter, left_of}
 use Rattle.uhura_search.specs.Closed.{NoneBegins}
 use Rattle.uhura_search.specs.Asked.{AddsAll, LearnsSome}
-use Rattle.uhura_search.specs.Learning.{IsLearningFor, IsReady, StandsAt, IsReachedAt, IsAt, IsBettered, IsShutByValue, Closes}
+use Rattle.uhura_search.specs.Learning.{IsLearningFor, IsReady, StandsAt, IsReachedAt, IsBettered, IsShutByValue, Closes}
 use Rattle.uhura_search.proofs.Enough.{earlier-enough, later-enough, same-enough}
 use Rattle.uhura_search.proofs.Still.{shut-more, shut-better, shut-first}
 use Rattle.uhura_search.proofs.Valid.{net-value}
@@ -159,7 +156,7 @@ reached-small state (Some best) reached = reached.small
 module _ (state : State) (old new : Learning) (branch : List Pick) (value : ℤ) (before after : Option Incumbent) (ready : IsReady state old) (is_branch : IsBranch state.plan.choices branch) (stands : StandsAt state.plan old branch)
     (flow : IsFlow old.flow) (worth : value ≡ net_value old.flow.net) (reached : IfSome before (IsReachedAt state)) (none : NoneBegins (IsShut state old.store before) branch)
     (bettered : IsBettered state.plan branch value before after) (small : IfSome after IsSmallCost) where
-  looked-reached : IfSome after (IsReachedAt state)
+  pub looked-reached : IfSome after (IsReachedAt state)
   looked-reached = by bettered
     where
       by : IsBettered state.plan branch value before after → IfSome after (IsReachedAt state)

@@ -1,20 +1,17 @@
 -- What the conflicts of a store bound.
-use Rattle.std.proofs.Common.{◌≡◌, ℕ, Bool, true, false, List, Option, Some, sym, subst, refl}
-use Rattle.std.specs.Prelude.{ℤ, pos, ◌+ℤ◌, ◌*ℤ◌, ◌≤ℤ◌, IfSome}
+use Rattle.std.proofs.Common.{◌≡◌, ℕ, Bool, true, false, List, Some, refl}
+use Rattle.std.specs.Prelude.{pos, ◌+ℤ◌, ◌*ℤ◌, ◌≤ℤ◌}
 use Rattle.std.specs.Bool.{MatchBool}
 use Rattle.uhura_plan.specs.Sound.{IsSound}
 use Rattle.uhura_choice.specs.declared.prefix.Pick.{Pick}
 use Rattle.uhura_choice.specs.Branch.{picked_cost}
 use Rattle.uhura_choice.specs.Order.{IsFrontOf}
-use Rattle.uhura_net.specs.declared.place.TheConstants.{PLACES}
-use Rattle.uhura_net.specs.declared.place.Place.{Place}
 use Rattle.uhura_veto.specs.State.{State}
 use Rattle.uhura_worst.specs.Proposal.{Proposal}
 use Rattle.uhura_worst.specs.Allowed.{Allowed}
 use Rattle.uhura_worst.specs.Cost.{cost}
 use Rattle.uhura_dual.proofs.Duality.{dual-bound}
-use Rattle.uhura_dual.specs.Settled.{key_at}
-use Rattle.uhura_conflict.specs.Learned.{Learned, places_in}
+use Rattle.uhura_conflict.specs.Learned.{Learned}
 use Rattle.uhura_conflict.specs.Literals.{Applies}
 use Rattle.uhura_conflict.specs.Store.{Stored, conflict_at, value_at}
 use Rattle.uhura_shows.proofs.Leaves.{stuck-allows_nothing}

@@ -1,5 +1,5 @@
 -- The edges that are active after some first picks of a branch are active in the branch.
-use Rattle.std.proofs.Common.{◌≡◌, ℕ, Bool, true, List, ◌++◌, Option, None, Some, sym, ap, ◌∙◌, arith}
+use Rattle.std.proofs.Common.{◌≡◌, ℕ, Bool, true, List, ◌++◌, Option, None, sym, ap, ◌∙◌, arith}
 use Rattle.std.specs.Prelude.{◌-◌, ◌+◌, ◌^◌, min, if◌then◌else◌}
 use Rattle.uhura_plan.specs.Lists.{Lists}
 use Rattle.uhura_choice.specs.declared.prefix.Pick.{Pick}
@@ -7,7 +7,7 @@ use Rattle.uhura_choice.specs.Order.{IsFrontOf}
 use Rattle.uhura_net.specs.declared.edge.Edge.{Edge}
 use Rattle.uhura_net.specs.Circulation.{edges_of}
 use Rattle.uhura_flow.specs.Flow.{FlowState, flow_edges}
-use Rattle.uhura_worst.specs.Edges.{item_of, is_active_item, is_active_edge}
+use Rattle.uhura_worst.specs.Edges.{item_of, is_active_edge}
 use Rattle.uhura_dual.specs.Settled.{key_at}
 use Rattle.uhura_dual.proofs.Beginnings.{active-more}
 use Rattle.uhura_search.specs.Fronts.{IsOpenAmong}

@@ -1,31 +1,30 @@
 -- What conflicts ask for: by the guards of slots, and by the requirements of a plan.
-use Rattle.std.proofs.Common.{◌≡◌, ◌⊎◌, ℕ, zero, suc, ◌+◌, ◌<◌, ◌≤◌, ◌==◌, Bool, true, false, true≢false, List, [], ◌∷◌, length, get_or, map, Option, Some, None, unwrap_or, cond, eqb, inl, inr, ap, sym, subst, refl, ◌∙◌, arith}
-use Rattle.std.specs.Prelude.{All, Contains, IsTrue, IsFalse, IsSome, IfSome, find, option_and_then, if◌then◌else◌}
+use Rattle.std.proofs.Common.{◌≡◌, ℕ, zero, suc, ◌≤◌, ◌==◌, Bool, true, false, List, [], ◌∷◌, Option, Some, None, unwrap_or, cond, eqb, inl, inr, ap, sym, subst, refl, ◌∙◌, arith}
+use Rattle.std.specs.Prelude.{All, Contains, IsSome, IfSome, option_and_then, if◌then◌else◌}
 use Rattle.std.specs.Bool.{MatchBool}
-use Rattle.std.proofs.lemmas.Bool.{cases_eq, eq-eqb}
+use Rattle.std.proofs.lemmas.Bool.{eq-eqb}
 use Rattle.std.proofs.lemmas.Bool.Decides.{Decides-eqb}
 use Rattle.std.proofs.lemmas.List.Elements.{All-contains}
 use Rattle.uhura_plan.specs.declared.guard.Literal.{Literal}
 use Rattle.uhura_plan.specs.declared.requirement.Requirement.{Requirement}
 use Rattle.uhura_plan.specs.declared.key.Item.{Item}
 use Rattle.uhura_plan.specs.declared.key.Item.TheVariants as item
-use Rattle.uhura_plan.specs.declared.key.EdgeKey.{EdgeKey}
 use Rattle.uhura_plan.specs.Find.{requirement_in}
 use Rattle.uhura_net.specs.declared.edge.Edge.{Edge}
 use Rattle.uhura_net.specs.declared.place.Place.{Place}
 use Rattle.uhura_net.specs.declared.place.TheConstants.{PLACES}
-use Rattle.uhura_net.specs.Place.{place_number, HasPlace, is_loose}
-use Rattle.uhura_net.specs.Edges.{Edges, no_edge, edge_at}
+use Rattle.uhura_net.specs.Place.{is_loose}
+use Rattle.uhura_net.specs.Edges.{Edges, no_edge}
 use Rattle.uhura_net.specs.Walk.{IsNegativeWalk}
 use Rattle.uhura_net.specs.Circulation.{edges_of, IsCirculation}
 use Rattle.uhura_net.specs.Optimal.{firm_edges}
 use Rattle.uhura_veto.specs.State.{State}
 use Rattle.uhura_worst.specs.Edges.{edge_among, tables_under, item_of}
-use Rattle.uhura_worst.specs.Filled.{IsTableOf, entry_at}
+use Rattle.uhura_worst.specs.Filled.{IsTableOf}
 use Rattle.uhura_worst.proofs.SoundItems.{Contains-found}
 use Rattle.uhura_worst.proofs.FirstItems.{passes}
 use Rattle.uhura_conflict.specs.Learned.{Learned, places_in, units_in, IsLearned, IsValid}
-use Rattle.uhura_conflict.specs.Literals.{slot_of, slot_of_item, IsOfSlot, Asks, IsAskedBy, HasPlaceAmong, AreLiteralsOf}
+use Rattle.uhura_conflict.specs.Literals.{slot_of_item, IsOfSlot, IsAskedBy, AreLiteralsOf}
 use Rattle.uhura_conflict.specs.Store.{Stored, conflict_at, IsStore, if_it_outlasts, Revises}
 use Rattle.uhura_conflict.specs.Kept.{outlasts}
 use Rattle.uhura_search.specs.Guards.{guard_at, HaveGuardsOf, IsGuardedAt, AsksForGuards, IsWithoutReguarded, AllAskForGuards}

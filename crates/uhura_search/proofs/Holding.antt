@@ -1,6 +1,6 @@
 -- What a searcher keeps true.
-use Rattle.std.proofs.Common.{◌≡◌, ◌≢◌, ◌⊎◌, ℕ, ◌<◌, Bool, true, false, true≢false, List, [], ◌∷◌, length, take, get_or, replicate, Option, Some, None, inl, inr, ap, sym, subst, refl, ◌∙◌, arith, AllPairs}
-use Rattle.std.specs.Prelude.{ℤ, Contains, IsTrue, IsFalse, IsSome, IfSome, option_map}
+use Rattle.std.proofs.Common.{◌≡◌, ℕ, Bool, true, false, true≢false, List, [], length, get_or, replicate, Option, Some, None, inl, inr, ap, sym, subst, refl, ◌∙◌, arith}
+use Rattle.std.specs.Prelude.{ℤ, IsTrue, IsSome, option_map}
 use Rattle.std.proofs.Math.ListN.{get_or-eq_default}
 use Rattle.std.proofs.lemmas.Bool.{cases_lt}
 use Rattle.std.proofs.lemmas.List.{length-replicate, get_or-replicate}
@@ -120,7 +120,7 @@ trimmed-for state old new most count trims sound known =
     }
 
 pub trimmed-learning : (state : State) (learning : Learning) (store : Stored) (most count : ℕ) → Trims learning.store store most count → IsStore store → IsLearningFor state learning →
-    IsLearningFor state (record { flow = learning.flow; table = learning.table; store = store; places = learning.places; added = learning.added })
+    IsLearningFor state (record learning { store = store })
 trimmed-learning state learning store most count trims sound kept = record {
   store = trimmed-for state learning.store store most count trims sound kept.store;
   table = trims.table ∙ kept.table;

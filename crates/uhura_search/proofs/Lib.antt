@@ -6,6 +6,7 @@ pub mod Bounding
 pub mod Denials
 pub mod Enough
 pub mod FlowBounds
+pub mod Following
 pub mod Found
 pub mod Fronting
 pub mod Guarded

@@ -1,9 +1,8 @@
 -- Tables without the edges of slots that have another guard.
-use Rattle.std.proofs.Common.{◌≡◌, ◌≢◌, ◌⊎◌, ℕ, ◌+◌, ◌<◌, ◌∷◌, ◌++◌, [], Bool, true, false, true≢false, List, length, take, get_or, set, Option, Some, None, inl, inr, refl, sym, ap, subst, ◌∙◌, arith, AllPairs, length-take-le}
+use Rattle.std.proofs.Common.{◌≡◌, ◌≢◌, ◌⊎◌, ℕ, ◌<◌, ◌∷◌, ◌++◌, [], Bool, true, false, true≢false, List, length, take, get_or, set, Option, Some, None, inl, inr, refl, sym, ap, subst, ◌∙◌, arith, AllPairs, length-take-le}
 use Rattle.std.specs.Prelude.{Contains, if◌then◌else◌, nat_eq, slice_get}
-use Rattle.std.proofs.lemmas.Bool.{cases_eq}
 use Rattle.std.proofs.lemmas.Bool.Decides.{Decides-eqb}
-use Rattle.std.proofs.lemmas.List.{get_or-set_same, get_or-set_other, get_or-take, get_or-map, length-map, take_more}
+use Rattle.std.proofs.lemmas.List.{get_or-set_same, get_or-set_other, get_or-take, get_or-map, length-map}
 use Rattle.std.proofs.lemmas.List.Elements.{Contains-push, Contains-push_cases, Contains-append_left}
 use Rattle.std.proofs.lemmas.Option.{slice_get_within, get_or_from_slice_get}
 use Rattle.uhura_plan.specs.declared.guard.Literal.{Literal}
@@ -11,11 +10,9 @@ use Rattle.uhura_plan.specs.declared.requirement.Requirement.{Requirement}
 use Rattle.uhura_plan.specs.declared.key.Item.{Item}
 use Rattle.uhura_plan.specs.declared.key.Item.TheVariants as item
 use Rattle.uhura_plan.specs.declared.key.EdgeKey.{EdgeKey}
-use Rattle.uhura_plan.specs.declared.key.EdgeKey.TheVariants.{Loose, Firm, Order, Steep}
 use Rattle.uhura_plan.specs.Keys.{is_same_item}
 use Rattle.uhura_plan.specs.Lists.{slots}
 use Rattle.uhura_net.specs.declared.edge.Edge.{Edge}
-use Rattle.uhura_net.specs.Place.{HasPlace}
 use Rattle.uhura_worst.specs.Edges.{item_of}
 use Rattle.uhura_worst.specs.Filled.{entry_at, PutsItem}
 use Rattle.uhura_worst.proofs.FirstItems.{slot_at}

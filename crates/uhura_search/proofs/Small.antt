@@ -1,5 +1,5 @@
 -- What the units of a net may be worth at most.
-use Rattle.std.proofs.Common.{◌≡◌, ℕ, zero, suc, ◌*◌, ◌≤◌, ℤ, pos, negsuc, ◌≤ℤ◌, Option, None, Some, IfSome, unwrap_or, arith}
+use Rattle.std.proofs.Common.{ℕ, zero, suc, ◌*◌, ◌≤◌, pos, negsuc, ◌≤ℤ◌, Option, None, Some, IfSome, unwrap_or, arith}
 use Rattle.std.specs.Prelude.{neg_ℤ}
 use Rattle.std.proofs.lemmas.Int.{ints}
 use Rattle.uhura_net.specs.declared.edge.Edge.{Edge}

@@ -1,14 +1,13 @@
 -- The flow at a branch: its edges are settled, it isn't stuck where something is allowed, and its potentials are
 -- within those of a plan.
-use Rattle.std.proofs.Common.{◌≡◌, ℕ, ◌*◌, ◌<◌, ◌≤◌, List, [], get_or, Option, Some, refl, sym, ap, subst, ◌∙◌, append-nil, lit≤, arith}
-use Rattle.std.specs.Prelude.{ℤ, pos, ◌*ℤ◌, ◌≤ℤ◌, All, Contains, IsSome, false}
+use Rattle.std.proofs.Common.{◌≡◌, ℕ, ◌*◌, ◌<◌, ◌≤◌, List, [], Option, Some, refl, sym, ap, subst, ◌∙◌, append-nil, lit≤, arith}
+use Rattle.std.specs.Prelude.{ℤ, pos, ◌*ℤ◌, ◌≤ℤ◌, Contains, IsSome, false}
 use Rattle.std.proofs.lemmas.Int.{ints}
 use Rattle.std.proofs.lemmas.List.{get_or_default}
 use Rattle.std.proofs.lemmas.List.Elements.{All-contains}
 use Rattle.uhura_plan.specs.Sound.{IsSound}
 use Rattle.uhura_choice.specs.declared.prefix.Pick.{Pick}
 use Rattle.uhura_net.specs.declared.edge.Edge.{Edge}
-use Rattle.uhura_net.specs.declared.edge.TheConstants.{NODES}
 use Rattle.uhura_net.specs.declared.place.TheConstants.{PLACES}
 use Rattle.uhura_net.specs.Edges.{Edges, time_at}
 use Rattle.uhura_net.specs.Circulation.{edges_of}
@@ -18,7 +17,6 @@ use Rattle.uhura_flow.specs.Flow.{FlowState, flow_edges, flow_units, flow_potent
 use Rattle.uhura_flow.specs.Reading.{touched_nodes}
 use Rattle.uhura_veto.specs.State.{State}
 use Rattle.uhura_veto.specs.Denial.{is_denied}
-use Rattle.uhura_worst.specs.Filled.{IsTableOf}
 use Rattle.uhura_worst.specs.Allowed.{Allowed}
 use Rattle.uhura_worst.specs.Cost.{cost}
 use Rattle.uhura_worst.specs.WorstCase.{KeepsFirmEdges, proposal_at}
@@ -35,14 +33,13 @@ use Rattle.uhura_shows.proofs.Leaves.{leaves-cheapest}
 use Rattle.uhura_search.specs.declared.incumbent.Incumbent.{Incumbent}
 use Rattle.uhura_search.specs.declared.leaf.LeafNote.{LeafNote}
 use Rattle.uhura_search.specs.declared.learning.Learning.{Learning}
-use Rattle.uhura_search.specs.Moving.{AreAmong, AreListed, active_edges, IsStuckAmong}
+use Rattle.uhura_search.specs.Moving.{AreAmong, active_edges, IsStuckAmong}
 use Rattle.uhura_search.specs.Answer.{IsFoundFor, shown_leaves}
 use Rattle.uhura_search.specs.Asked.{IsSolvedAt}
 use Rattle.uhura_search.specs.Learning.{IsLearningFor, IsReady, StandsAt, IsReachedAt}
 use Rattle.uhura_search.proofs.Active.{among-active, among-table}
 use Rattle.uhura_search.proofs.Bettering.{stands-settled, table-of}
 use Rattle.uhura_search.proofs.Shown.{key-stands, edge-at_key}
-use Rattle.uhura_search.proofs.Touched.{touched-few}
 
 -- edges among the active ones of the table are settled
 pub among-settled : (state : State) (learning : Learning) (branch : List Pick) (few : Edges) → IsReady state learning → AreAmong few (active_edges learning.table state.plan branch) → AreSettled state branch few

@@ -15,9 +15,7 @@ use Rattle.uhura_conflict.specs.Store.{Stored, conflict_at, value_at, Adds}
 use Rattle.uhura_search.specs.declared.leaf.LeafReason.{LeafReason}
 use Rattle.uhura_search.specs.declared.leaf.LeafReason.TheVariants.{Denied, Empty, Learned as LearnedOf}
 use Rattle.uhura_search.specs.declared.incumbent.Incumbent.{Incumbent}
-use Rattle.uhura_search.specs.Shut.{IsDear, IsEnough, IsReason, IsShut, IsClosed, IsBetter}
-use Rattle.uhura_search.specs.Closed.{HasFront, AreAllShut, NoneBegins}
-use Rattle.uhura_plan.specs.declared.choice.Choice.{Choice}
+use Rattle.uhura_search.specs.Shut.{IsDear, IsEnough, IsReason, IsShut, IsBetter}
 
 -- a conflict that is there stays there when another is added
 kept-there : (old new : Stored) (key : ℕ) (added : Learned) (other : ℕ) (c : Learned) → Adds old new key added → conflict_at old other ≡ Some c → conflict_at new other ≡ Some c
@@ -82,30 +80,3 @@ shut-first state store best prefix shut = record { reason = shut.reason; is_reas
         by_enough : IsTrue c.stuck ⊎ (IsFalse c.stuck × IsDear state.plan None prefix (value_at store c)) → IsTrue c.stuck ⊎ (IsFalse c.stuck × IsDear state.plan best prefix (value_at store c))
         by_enough (inl stuck) = inl stuck
         by_enough (inr dear) = absurd dear.1
-
--- what is closed stays closed when more is known
-pub closed-more : (state : State) (old new : Stored) (best : Option Incumbent) (prefix : List Pick) (key : ℕ) (added : Learned) → Adds old new key added → IsClosed state old best prefix → IsClosed state new best prefix
-closed-more state old new None prefix key added adds shut = shut-more state old new None prefix key added adds shut
-closed-more state old new (Some best) prefix key added adds (inl shut) = inl (shut-more state old new (Some best) prefix key added adds shut)
-closed-more state old new (Some best) prefix key added adds (inr same) = inr same
-
--- when a branch that no shut prefix begins becomes the best so far, and the branch of the old one is shut then
-pub closed-better : (state : State) (store : Stored) (best better : Incumbent) (prefix : List Pick) → IsBetter better best → NoneBegins (IsShut state store (Some best)) better.branch →
-    IsShut state store (Some better) best.branch → IsClosed state store (Some best) prefix → IsClosed state store (Some better) prefix
-closed-better state store best better prefix is_better none old (inl shut) = inl (shut-better state store best better prefix is_better (λ begins. none prefix begins shut) shut)
-closed-better state store best better prefix is_better none old (inr same) = inl (subst (IsShut state store (Some better)) (sym same) old)
-
--- and when it is the first
-pub closed-first : (state : State) (store : Stored) (best : Incumbent) (prefix : List Pick) → IsClosed state store None prefix → IsClosed state store (Some best) prefix
-closed-first state store best prefix shut = inl (shut-first state store (Some best) prefix shut)
-
--- where all are closed, and the branch of the best so far is shut too, all are shut
-pub all-closed : (state : State) (store : Stored) (choices : List Choice) (best : Incumbent) → IsShut state store (Some best) best.branch → AreAllShut choices (IsClosed state store (Some best)) →
-    AreAllShut choices (IsShut state store (Some best))
-all-closed state store choices best own closed branch is =
-    let front : HasFront (IsClosed state store (Some best)) branch = closed branch is in
-    record { prefix = front.prefix; begins = front.begins; shut = by_it front.prefix front.shut }
-  where
-    by_it : (prefix : List Pick) → IsClosed state store (Some best) prefix → IsShut state store (Some best) prefix
-    by_it prefix (inl shut) = shut
-    by_it prefix (inr same) = subst (IsShut state store (Some best)) (sym same) own

@@ -1,9 +1,8 @@
 -- How many nodes the edges of a plan touch.
-use Rattle.std.proofs.Common.{◌≡◌, ℕ, zero, suc, ◌+◌, ◌*◌, ◌<◌, ◌≤◌, Bool, true, false, Option, None, Some, inl, inr, refl, sym, ap, subst, ◌∙◌, arith}
+use Rattle.std.proofs.Common.{◌≡◌, ℕ, zero, suc, ◌+◌, ◌*◌, ◌<◌, ◌≤◌, Bool, true, false, Option, None, Some, inl, inr, refl, subst, arith}
 use Rattle.std.specs.Prelude.{◌⊎◌, ◌==◌, ◌||◌, IfSome, ℤ, neg_ℤ, List, length, option_map, option_and_then, slice_get, if◌then◌else◌}
 use Rattle.std.proofs.lemmas.Bool.{cases_lt, eqb-true}
 use Rattle.std.proofs.lemmas.Option.{slice_get_within}
-use Rattle.uhura_plan.specs.Lists.{Lists}
 use Rattle.uhura_plan.specs.Sound.{IsSound, IsEventAmong}
 use Rattle.uhura_plan.specs.Find.{requirement_in}
 use Rattle.uhura_plan.specs.Sides.{loosening_rate, rate_of}
@@ -21,7 +20,6 @@ use Rattle.uhura_plan.specs.declared.requirement.Requirement.{Requirement}
 use Rattle.uhura_plan.specs.declared.uncertain.Uncertain.{Uncertain}
 use Rattle.uhura_choice.specs.declared.prefix.Pick.{Pick}
 use Rattle.uhura_net.specs.declared.edge.Edge.{Edge}
-use Rattle.uhura_net.specs.declared.edge.TheConstants.{NODES}
 use Rattle.uhura_net.specs.declared.place.TheConstants.{PLACES}
 use Rattle.uhura_net.specs.Edges.{Edges}
 use Rattle.uhura_net.specs.Sums.{sum_below}
@@ -32,8 +30,8 @@ use Rattle.uhura_veto.specs.declared.room.Room.{Room}
 use Rattle.uhura_veto.specs.declared.room.Room.TheVariants.{Units, Unlimited}
 use Rattle.uhura_veto.specs.State.{State}
 use Rattle.uhura_worst.specs.declared.constraint.Constraint.{Constraint}
-use Rattle.uhura_worst.specs.Nodes.{least_end, greatest_end, least_node, greatest_node}
-use Rattle.uhura_worst.specs.Edges.{between, requirement_constraint, duration_constraint, loose_edge, steep_edge, steep_edge_by, firm_edge, requirement_edge, duration_edge, edge_in, edge_of, item_of}
+use Rattle.uhura_worst.specs.Nodes.{least_node, greatest_node}
+use Rattle.uhura_worst.specs.Edges.{between, requirement_constraint, duration_constraint, loose_edge, steep_edge, steep_edge_by, firm_edge, requirement_edge, duration_edge, edge_in, item_of}
 use Rattle.uhura_worst.proofs.SoundItems.{Contains-found, sound_requirement, sound_uncertain}
 use Rattle.uhura_dual.specs.Settled.{AreSettled}
 

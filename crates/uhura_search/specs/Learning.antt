@@ -120,3 +120,8 @@ pub record Closes (state : State) (old new : Learning) (before after : Option In
   pub shut : IsShut state new.store after prefix
   pub kept : (front : List Pick) → IsShut state old.store before front →
       IsShut state new.store after front
+
+-- conflicts are learned, and the best so far is reached
+pub record Tries (state : State) (old new : Learning) (after : Option Incumbent) : Type 0 where
+  pub learns : LearnsSome state.plan.choices old new
+  pub reached : IfSome after (IsReachedAt state)

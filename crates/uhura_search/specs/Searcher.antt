@@ -1,6 +1,6 @@
 -- What a searcher keeps between questions, and what a question leaves of it.
 use Rattle.std.specs.Prelude.{◌≡◌, ◌⊎◌, ℕ, ◌+◌, ◌≤◌, ℤ, Bool, false, IsTrue, IsFalse, List, [], length, replicate}
-use Rattle.std.specs.Prelude.{Option, None, Some, IsSome, IfSome, IfOk, OnOk, OnErr, Result, option_map}
+use Rattle.std.specs.Prelude.{Option, None, Some, IsSome, IfOk, OnOk, OnErr, Result}
 use Rattle.std.specs.Bool.{MatchBool}
 use Rattle.std.specs.declared.alloc.AllocError.{AllocError}
 use Rattle.uhura_plan.specs.declared.guard.Literal.{Literal}
@@ -32,8 +32,8 @@ said (outcome.Found branch all potentials leaves) =
 said (outcome.None leaves) = record { found = None; leaves = leaves.items }
 
 -- The edges and units of the one flow and the pushes so far; how often it was read or found stuck; the conflicts, and
--- how many were added so far; the guards by slot of the last plan; the last answer, and whether it stands; and whether
--- anything was asked yet.
+-- how many were added so far; the guards by slot of the last plan; the last answer, and whether it stands; and
+-- whether anything was asked yet.
 pub record Searched : Type 0 where
   pub net : NetState
   pub settles : ℕ
@@ -58,8 +58,8 @@ empty_searcher = record {
 }
 
 -- What a searcher keeps true: each edge of the flow is one of the table; each conflict is valid for the table, and
--- asks for what the guards say; where the last answer stands, there is one; and before the first question the searcher
--- is as it was made.
+-- asks for what the guards say; where the last answer stands, there is one; and before the first question the
+-- searcher is as it was made.
 pub record IsSearcher (searcher : Searched) : Type 0 where
   pub store : IsStore searcher.store
   pub slots : length searcher.guards ≡ REQUIREMENTS

@@ -68,9 +68,3 @@ FindsReason state store best prefix (Some reason) = IsReason state store best pr
 -- the prefix of a leaf is shut for its reason
 abbrev pub IsNoted : State → Stored → Option Incumbent → LeafNote → Type 0
 IsNoted state store best note = IsReason state store best note.prefix note.reason
-
--- a branch with this prefix needs no more look: the prefix is shut, or it is the branch of the best so far
-abbrev pub IsClosed : State → Stored → Option Incumbent → List Pick → Type 0
-IsClosed state store None prefix = IsShut state store None prefix
-IsClosed state store (Some best) prefix =
-    IsShut state store (Some best) prefix ⊎ (prefix ≡ best.branch)

@@ -12,11 +12,10 @@ ghost use Rattle.uhura_conflict.specs.declared.bound.Bound.TheVariants.{Stuck};
 ghost use Rattle.uhura_conflict.specs.Learned.{Learned, places_in, IsValid};
 ghost use Rattle.uhura_conflict.specs.Literals.{AreLiteralsOf, Applies};
 ghost use Rattle.uhura_conflict.specs.Store.{IsBest, ExceedsBest, value_at};
-ghost use Rattle.uhura_veto.specs.State.{State};
 ghost use Rattle.uhura_search.specs.Moving.{AreAmong, AreListed, active_edges};
 ghost use Rattle.uhura_veto.specs.declared.veto.Veto.{Veto};
 ghost use Rattle.uhura_search.specs.Asked.{LearnsSome, LearnsOrStops};
-ghost use Rattle.uhura_search.specs.Learning.{IsReady, HasAddedAt, IsBelow, AreCounts, IsWorthMore, IsShutByValue};
+ghost use Rattle.uhura_search.specs.Learning.{IsReady, HasAddedAt, AreCounts, IsWorthMore, IsShutByValue};
 
 use crate::learning::Learning;
 use crate::shut::is_less;
@@ -59,7 +58,8 @@ pub(crate) fn add_stuck(
     requires is_branch { IsBranch plan.now.choices branch.now }
     requires table { learning.old.store.table ≡ learning.old.table }
     requires listed { AreListed learning.old.places.items learning.old.table }
-    requires walk { (edges : Edges) × AreAmong edges (active_edges learning.old.table plan.now branch.now)
+    requires walk { (edges : Edges)
+        × AreAmong edges (active_edges learning.old.table plan.now branch.now)
         × IsNegativeWalk (firm_edges edges) learning.old.flow.cycle }
     requires unknown { (key : ℕ) → IsBest learning.old.store branch.now (Stuck key) → ⊥ }
     ensures ok { OnOk result ((conflict : Learned) × IsTrue conflict.stuck
@@ -107,8 +107,8 @@ fn is_worth_more(store: &Store, branch: &Branch, value: i128) -> bool
     }
 }
 
-/// Reads the flow and adds its units, where they are worth more than what is known of the branch. Its edges are active
-/// there.
+/// Reads the flow and adds its units, where they are worth more than what is known of the branch. Its edges are
+/// active there.
 pub(crate) fn note_flow(
     learning: &mut Learning,
     alloc: Global,

@@ -13,14 +13,16 @@ use crate::incumbent::Incumbent;
 use crate::learning::Learning;
 use crate::moving::list_places;
 use crate::solving::solve;
+use crate::trying::copy_of;
 use crate::{LeafNote, Outcome};
 use std::alloc::{AllocError, Global};
+use uhura_choice::Prefix;
 use uhura_plan::Plan;
 use uhura_veto::Vetoes;
 
-/// The first of the cheapest branches, or none, with leaves that show it. What is learned on the way is kept. The flow
-/// is read or found stuck once for each conflict that is added, and once more where there is an answer, or no memory
-/// for what was to be learned.
+/// The first of the cheapest branches, or none, with leaves that show it. What is learned on the way is kept. The
+/// flow is read or found stuck once for each conflict that is added, and once more where there is an answer, or no
+/// memory for what was to be learned.
 pub(crate) fn ask(
     learning: &mut Learning,
     alloc: Global,
@@ -59,6 +61,7 @@ fn make_ready(learning: &mut Learning, plan: &Plan, vetoes: &Vetoes) -> Result<(
     // By their types the plan and the vetoes are sound, and the counts within them.
     let _ = (plan.choices(), vetoes.count(), learning.flow.settles());
     let _added = learning.added;
+    learning.stands = Prefix::empty();
     list_places(&learning.table, &mut learning.places)
 }
 
@@ -84,6 +87,7 @@ fn found(
     ensures entered { IfOk result (LeavesEntered learning.new.store) }
     ensures kept { IsLearningFor (record { plan = plan.now; vetoes = vetoes.now }) learning.new }
 {
+    learning.last = copy_of(plan, &best.branch);
     let potentials = solve(learning, alloc, plan, vetoes, &best)?;
     Ok(Outcome::Found {
         branch: best.branch,

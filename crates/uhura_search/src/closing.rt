@@ -11,6 +11,7 @@ ghost use Rattle.uhura_search.specs.Learning.{IsReady, IsReachedAt, Closes};
 use crate::fronts::shut_front;
 use crate::incumbent::Incumbent;
 use crate::learning::Learning;
+use crate::starting::start;
 use crate::trying::{copy_of, learn};
 use std::alloc::{AllocError, Global};
 use uhura_choice::{Branch, Prefix, first_branch};
@@ -44,8 +45,8 @@ fn close(
     Ok(copy_of(plan, branch))
 }
 
-/// Closes the branches in order, and answers the best of them, if anything is allowed in any. All branches of a prefix
-/// that is shut are passed at once.
+/// Closes the branches in order, and answers the best of them, if anything is allowed in any. It begins with the best
+/// of some that were tried before. All branches of a prefix that is shut are passed at once.
 pub(crate) fn close_all(
     learning: &mut Learning,
     alloc: Global,
@@ -61,7 +62,7 @@ pub(crate) fn close_all(
     ensures stops { LearnsOrStops plan.now.choices learning.old learning.new }
     ensures ready { IsReady (record { plan = plan.now; vetoes = vetoes.now }) learning.new }
 {
-    let mut best = None;
+    let mut best = start(learning, alloc, plan, vetoes)?;
     let mut branch = first_branch(plan);
     'walk: loop {
         let prefix = close(learning, &mut best, alloc, plan, vetoes, &branch)?;

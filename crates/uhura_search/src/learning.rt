@@ -5,12 +5,14 @@ ghost use Rattle.uhura_flow.specs.Flow.{empty_flow};
 ghost use Rattle.uhura_conflict.specs.Store.{empty_store};
 
 use std::alloc::{AllocError, Global};
+use uhura_choice::Prefix;
 use uhura_conflict::Store;
 use uhura_flow::Flow;
 use uhura_net::EdgeTable;
 
 /// A flow over some edges of a table, what was learned of the table, and how many conflicts were added so far. The
-/// places are room for those of the table that have an edge.
+/// places are room for those of the table that have an edge. Two prefixes are hints alone: the first picks to which
+/// the flow was moved last on the way to a branch, and the branch that was answered last.
 #[derive(Drop)]
 pub(crate) struct Learning {
     pub(crate) flow: Flow,
@@ -18,6 +20,8 @@ pub(crate) struct Learning {
     pub(crate) store: Store,
     pub(crate) places: Vec<u32>,
     pub(crate) added: u64,
+    pub(crate) stands: Prefix,
+    pub(crate) last: Prefix,
 }
 
 impl Learning {
@@ -34,6 +38,8 @@ impl Learning {
             store: Store::new(alloc)?,
             places: Vec::new(alloc),
             added: 0,
+            stands: Prefix::empty(),
+            last: Prefix::empty(),
         })
     }
 }

@@ -1,7 +1,9 @@
 //! The answer to a question: the branch of a cheapest proposal, with leaves that show it (`specs/Answer.antt`). The
-//! branches are walked in order, and those of a prefix that is shut (`specs/Shut.antt`) are passed at once; then leaves
-//! cover them all (`specs/Appended.antt`). What is learned is kept for later questions (`specs/Searcher.antt`).
-//! A flow is moved from branch to branch (`specs/Moving.antt`).
+//! branches are walked in order, and those of a prefix that is shut (`specs/Shut.antt`) are passed at once. One flow
+//! is moved from branch to branch (`specs/Moving.antt`), and what it shows is learned where it shuts a branch
+//! (`specs/Learning.antt`), at as few of its picks as may be (`specs/Fronts.antt`). Then leaves cover all branches
+//! (`specs/Appended.antt`). What is learned is kept from question to question (`specs/Searcher.antt`), and revised
+//! when the plan or the vetoes change (`specs/Revised.antt`); what it bounds is stated too (`specs/Bounds.antt`).
 #![tactic(auto)]
 
 mod adding;
@@ -20,6 +22,7 @@ mod outcome;
 mod searcher;
 mod shut;
 mod solving;
+mod starting;
 mod stepping;
 mod taking;
 mod trying;

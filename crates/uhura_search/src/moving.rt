@@ -1,5 +1,5 @@
 //! From branch to branch: a flow gets the edges that are active after some first picks.
-ghost use Rattle.std.specs.Prelude.{◌≡◌, ◌<◌, ℕ, false, IfSome, OnOk, List, Option, length, replicate};
+ghost use Rattle.std.specs.Prelude.{◌≡◌, ◌<◌, false, IfSome, OnOk, List, Option, length, replicate};
 ghost use Rattle.uhura_plan.specs.declared.limits.TheConstants.{REQUIREMENTS};
 ghost use Rattle.uhura_flow.specs.Flow.{flow_edges, IsFlow, IsFlowEdge};
 ghost use Rattle.uhura_choice.specs.declared.prefix.Pick.{Pick};
@@ -46,8 +46,8 @@ pub(crate) fn list_places(table: &EdgeTable, places: &mut Vec<u32>) -> Result<()
 }
 
 /// Brings a flow to exactly the edges of the table that are active after the picks: first those go that are to go,
-/// then the loose ones come, and then the others. It stops at the first edge that the flow is stuck at. The places are
-/// those that have an edge, and no others are looked at.
+/// then the loose ones come, and then the others. It stops at the first edge that the flow is stuck at. The places
+/// are those that have an edge, and no others are looked at.
 pub(crate) fn move_to(
     flow: &mut Flow,
     table: &EdgeTable,

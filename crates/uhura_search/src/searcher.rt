@@ -22,7 +22,8 @@ use uhura_veto::Vetoes;
 const MOST_PAIRS: usize = 8388608;
 
 /// One flow, one table of edges and the conflicts learned so far, kept while the plan and the vetoes change; and the
-/// last answer, which is given again where nothing was revised since. The counts stand still at the end of their type.
+/// last answer, which is given again where nothing was revised since. The counts stand still at the end of their
+/// type.
 #[derive(Drop)]
 pub struct Searcher {
     alloc: Global,
@@ -39,7 +40,7 @@ impl Model for Searcher {
     ghost Value = { Searched };
 
     ghost use Rattle.uhura_search.specs.Bounds.{IsDual, AllBound};
-ghost use Rattle.uhura_search.specs.Held.{shown_as, IsHeldSearcher};
+    ghost use Rattle.uhura_search.specs.Held.{shown_as, IsHeldSearcher};
 
     ghost view = { λ s. shown_as s.learning s.guards.items s.answer s.stands s.filled };
 
@@ -78,9 +79,9 @@ impl Searcher {
         take_over(&mut self.learning, &mut self.guards, plan, vetoes);
     }
 
-    /// Answers a question: the first of the cheapest branches, or none, with leaves that show it. Where the last answer
-    /// stands, it is given again. Otherwise what is learned is kept, and trimmed when all is answered. After want of
-    /// memory the searcher may be asked again.
+    /// Answers a question: the first of the cheapest branches, or none, with leaves that show it. Where the last
+    /// answer stands, it is given again. Otherwise what is learned is kept, and trimmed when all is answered. After
+    /// want of memory the searcher may be asked again.
     pub fn best(&mut self, plan: &Plan, vetoes: &Vetoes) -> Result<Outcome, AllocError>
         requires { StandsFor self.old (record { plan = plan.now; vetoes = vetoes.now }) }
         ensures answer { let state : State = record { plan = plan.now; vetoes = vetoes.now } in

@@ -1,9 +1,7 @@
 //! The flow at the answered branch.
 ghost use Rattle.std.specs.Prelude.{◌≡◌, [], IfOk};
-ghost use Rattle.uhura_choice.specs.Branch.{IsBranch};
 ghost use Rattle.uhura_flow.specs.Flow.{IsFlow};
 ghost use Rattle.uhura_dual.specs.ReadOff.{ArePotentials};
-ghost use Rattle.uhura_veto.specs.State.{State};
 ghost use Rattle.uhura_search.specs.Asked.{HasLearned};
 ghost use Rattle.uhura_search.specs.Learning.{IsLearningFor, IsReady, StandsAt, IsReachedAt};
 
@@ -34,7 +32,13 @@ pub(crate) fn solve(
     ensures kept { IsLearningFor (record { plan = plan.now; vetoes = vetoes.now }) learning.new }
 {
     let places = learning.places.as_slice();
-    match move_to(&mut learning.flow, &learning.table, places, plan, &best.branch) {
+    match move_to(
+        &mut learning.flow,
+        &learning.table,
+        places,
+        plan,
+        &best.branch,
+    ) {
         Moved::Stuck => unreachable!(),
         Moved::Holds => {}
     }

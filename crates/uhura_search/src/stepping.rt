@@ -1,5 +1,5 @@
 //! The way of the flow to a branch, pick by pick.
-ghost use Rattle.std.specs.Prelude.{IfSome};
+ghost use Rattle.std.specs.Prelude.{IfSome, ◌≤◌, length};
 ghost use Rattle.uhura_choice.specs.Branch.{IsBranch};
 ghost use Rattle.uhura_flow.specs.Flow.{flow_edges};
 ghost use Rattle.uhura_net.specs.Circulation.{edges_of};
@@ -11,7 +11,7 @@ use crate::incumbent::Incumbent;
 use crate::moving::{Moved, move_to};
 use crate::shut::is_dear;
 use crate::trying::value_of;
-use uhura_choice::Branch;
+use uhura_choice::{Branch, Prefix};
 use uhura_flow::Flow;
 use uhura_net::EdgeTable;
 use uhura_plan::Plan;
@@ -26,11 +26,12 @@ pub(crate) enum Stop {
 }
 
 /// Moves the flow to the first picks of the branch, one more at a time, until it stops. So what is learned there has
-/// as few literals as may be.
+/// as few literals as may be. It begins with the picks that the branch shares with those at which the flow stands.
 pub(crate) fn step(
     flow: &mut Flow,
     table: &EdgeTable,
     places: &[u32],
+    stands: &mut Prefix,
     plan: &Plan,
     best: &Option<Incumbent>,
     branch: &Branch,
@@ -43,9 +44,11 @@ pub(crate) fn step(
     requires small { IfSome best.now IsSmallCost }
     ensures { IsStopped flow.old flow.new table.now plan.now best.now branch.now result }
 {
-    for len in 0..branch.entries().len() {
+    for len in shared(stands, branch)..branch.entries().len() {
         let front = front_of(plan, branch, len);
-        match move_to(flow, table, places, plan, &front) {
+        let moved = move_to(flow, table, places, plan, &front);
+        *stands = front;
+        match moved {
             Moved::Stuck => return Stop::Stuck,
             Moved::Holds => {}
         }
@@ -54,4 +57,18 @@ pub(crate) fn step(
         }
     }
     Stop::Open
+}
+
+/// How many first picks are the same.
+fn shared(one: &Prefix, other: &Prefix) -> usize
+    ensures { result ≤ length other.now }
+{
+    let (one, other) = (one.entries(), other.entries());
+    let most = one.len().min(other.len());
+    for place in 0..most {
+        if one[place] != other[place] {
+            return place;
+        }
+    }
+    most
 }

@@ -50,7 +50,7 @@ pub(crate) fn value_of(flow: &Flow) -> i128
 }
 
 /// Lets the branch be the best so far, unless its value is enough for the one that is.
-fn better(best: &mut Option<Incumbent>, plan: &Plan, branch: &Branch, value: i128)
+pub(crate) fn better(best: &mut Option<Incumbent>, plan: &Plan, branch: &Branch, value: i128)
     requires is_branch { IsBranch plan.now.choices branch.now }
     requires best { IfSome best.old (λ i. IsBranch plan.now.choices i.branch) }
     requires small { IfSome best.old IsSmallCost }
@@ -169,7 +169,16 @@ pub(crate) fn learn(
     ensures ready { IsReady (record { plan = plan.now; vetoes = vetoes.now }) learning.new }
 {
     let places = learning.places.as_slice();
-    match step(&mut learning.flow, &learning.table, places, plan, best, branch) {
+    let stands = &mut learning.stands;
+    match step(
+        &mut learning.flow,
+        &learning.table,
+        places,
+        stands,
+        plan,
+        best,
+        branch,
+    ) {
         Stop::Stuck => add_stuck(learning, alloc, plan, branch),
         Stop::Dear => learn_dear(learning, best, alloc, plan, vetoes, branch),
         Stop::Open => learn_whole(learning, best, alloc, plan, vetoes, branch),

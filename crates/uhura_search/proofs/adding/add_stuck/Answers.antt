@@ -5,7 +5,7 @@ use Rattle.uhura_net.specs.declared.place.Place.{Place}
 use Rattle.uhura_net.specs.Circulation.{edges_of}
 use Rattle.uhura_net.specs.Optimal.{firm_edges}
 use Rattle.uhura_net.specs.Walk.{IsNegativeWalk}
-use Rattle.uhura_conflict.specs.Literals.{AreActiveTogether, AreLiteralsOf}
+use Rattle.uhura_conflict.specs.Literals.{AreActiveTogether}
 use Rattle.uhura_conflict.specs.Learned.{IsValid}
 use Rattle.uhura_search.specs.Moving.{active_edges}
 use Rattle.uhura_search.proofs.Active.{walk-together, walk-active, among-table, among-both}

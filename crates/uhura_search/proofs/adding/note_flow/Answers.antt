@@ -38,7 +38,7 @@ returns-clause-shut c =
     let value = ap net_value c.reading.ensures.net ∙ sym c.requires.value in
     on_ok_weaker c.add_flow.result
     (λ has state best dear.
-        added-shut_by_value state c.args.plan.now read c.add_flow.new.learning c.args.branch.now has.0 c.args.value best has.1 (has.2 ∙ value) has.3 dear)
+    added-shut_by_value state c.args.plan.now read c.add_flow.new.learning c.args.branch.now has.0 c.args.value best has.1 (has.2 ∙ value) has.3 dear)
     c.add_flow.ensures.ok
 
 pub returns-clause-ready : goal.returns-clause-ready

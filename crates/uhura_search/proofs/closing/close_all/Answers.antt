@@ -1,22 +1,22 @@
-use Rattle.std.proofs.Common.{Some, None, refl, arith}
+use Rattle.std.proofs.Common.{Some, None}
 use Rattle.uhura_shows.proofs.Passing.{have-before_first}
 use Rattle.uhura_veto.specs.State.{State}
 use Rattle.uhura_search.specs.Shut.{IsShut}
 use Rattle.uhura_search.specs.Closed.{HasFront}
-use Rattle.uhura_search.proofs.Learns.{learns-none, some-both, some-stops, some-or_stops}
+use Rattle.uhura_search.proofs.Learns.{some-both, some-stops, some-or_stops}
 use Rattle.uhura_search.proofs.Walked.{closed-next, closed-falls}
 use Rattle.uhura_search.proofs.closing.close_all.Goals as goal
 
 pub walk-init : goal.walk-init
 walk-init c =
     let state : State = record { plan = c.args.plan.now; vetoes = c.args.vetoes.now } in
-    let learning = c.args.learning.now in
+    let started = c.in_ok-best.ensures in
     record {
       is_branch = c.first_branch-branch.ensures.is_branch;
-      before = have-before_first c.args.plan.now.choices (HasFront (IsShut state learning.store None)) c.first_branch-branch.result c.first_branch-branch.ensures;
-      reached = tt;
-      learns = learns-none c.args.plan.now.choices learning learning c.requires.counts (record { store = refl; added = refl; table = refl; pushes = omega arith }) refl;
-      ready = c.requires;
+      before = have-before_first c.args.plan.now.choices (HasFront (IsShut state c.start.new.learning.store c.in_ok-best.best)) c.first_branch-branch.result c.first_branch-branch.ensures;
+      reached = started.reached;
+      learns = started.learns;
+      ready = started.ready;
     }
 
 pub walk-preserved : goal.walk-preserved

@@ -1,9 +1,9 @@
-use Rattle.std.proofs.Common.{◌≡◌, ◌≤◌, ◌+◌, ◌∷◌, ◌++◌, [], ℕ, List, Some, take, length, sym, ap, subst, ◌∙◌, arith}
+use Rattle.std.proofs.Common.{◌≡◌, ◌≤◌, ◌+◌, ◌∷◌, ◌++◌, [], List, Some, take, length, sym, ap, subst, ◌∙◌, arith}
 use Rattle.std.specs.Prelude.{slice_get, option_copied}
 use Rattle.std.proofs.lemmas.List.{take_all}
 use Rattle.uhura_plan.specs.declared.requirement.Requirement.{Requirement}
 use Rattle.uhura_conflict.proofs.Gathering.{take_found, within}
-use Rattle.uhura_search.proofs.Reguarding.{AreWritten, slot-new, written-none, written-more}
+use Rattle.uhura_search.proofs.Reguarding.{AreWritten, slot-new, written-more}
 use Rattle.uhura_search.proofs.guards.reguard.Goals as goal
 
 pub loop-position-preserved : goal.loop-position-preserved

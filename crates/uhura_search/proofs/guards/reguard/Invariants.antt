@@ -1,4 +1,4 @@
-use Rattle.std.proofs.Common.{◌≡◌, length, take}
+use Rattle.std.proofs.Common.{take}
 use Rattle.uhura_search.proofs.Reguarding.{AreWritten}
 use Rattle.uhura_search.proofs.guards.reguard.Given as goal
 

@@ -1,7 +1,7 @@
 use Rattle.std.proofs.Common.{◌≡◌, ◌<◌, ℕ, [], length, true≢false, sym, subst, ◌∙◌}
 use Rattle.std.proofs.lemmas.List.{get_or_default}
 use Rattle.uhura_search.specs.Guards.{guard_at}
-use Rattle.uhura_search.proofs.Reguarding.{writes-same, writes-other}
+use Rattle.uhura_search.proofs.Reguarding.{writes-other}
 use Rattle.uhura_search.proofs.guards.write_guard.Goals as goal
 
 pub returns : goal.returns

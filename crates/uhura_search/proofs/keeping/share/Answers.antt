@@ -4,8 +4,7 @@ use Rattle.uhura_choice.specs.Branch.{IsPrefix}
 use Rattle.uhura_veto.specs.State.{State}
 use Rattle.uhura_search.specs.declared.leaf.LeafNote.{LeafNote}
 use Rattle.uhura_search.specs.declared.outcome.Outcome.{Outcome}
-use Rattle.uhura_search.specs.declared.outcome.Outcome.TheVariants as outcome
-use Rattle.uhura_search.specs.Answer.{IsAnswerTo, IsFoundFor}
+use Rattle.uhura_search.specs.Answer.{IsAnswerTo}
 use Rattle.uhura_search.proofs.Prefixed.{prefixes-shown}
 use Rattle.uhura_search.proofs.keeping.share.Goals as goal
 

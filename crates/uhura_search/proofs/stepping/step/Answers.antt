@@ -14,7 +14,7 @@ returns-in-Stuck c =
     let branch = c.args.branch.now in
     let begins : IsFrontOf c.front_of-front.result branch =
     subst (λ (front : List Pick). IsFrontOf front branch) (sym c.front_of-front.ensures) (drop c.loop-len.len branch, sym (take-append-drop c.loop-len.len branch)) in
-    stuck-front c.args.table.now c.args.plan.now c.front_of-front.result branch begins c.args.flow.now c.loop-len.flow c.move_to.new.flow c.loop-len.invariant.unsettled c.in-Stuck.ensures
+    stuck-front c.args.table.now c.args.plan.now c.front_of-front.result branch begins c.args.flow.now c.loop-len.flow c.move_to-moved.new.flow c.loop-len.invariant.unsettled c.in-Stuck.ensures
 
 pub returns-then-is_dear : goal.returns-then-is_dear
 returns-then-is_dear c =
@@ -22,9 +22,9 @@ returns-then-is_dear c =
     let begins : IsFrontOf c.front_of-front.result branch =
     subst (λ (front : List Pick). IsFrontOf front branch) (sym c.front_of-front.ensures) (drop c.loop-len.len branch, sym (take-append-drop c.loop-len.len branch)) in
     let fits : SFits w128 c.value_of.result = search rules in
-    let worth : to_z w128 (of_z w128 c.value_of.result) ≡ net_value c.move_to.new.flow.net = to_z-of_z w128 c.value_of.result fits ∙ c.value_of.ensures.value in
+    let worth : to_z w128 (of_z w128 c.value_of.result) ≡ net_value c.move_to-moved.new.flow.net = to_z-of_z w128 c.value_of.result fits ∙ c.value_of.ensures.value in
     record {
-      among = moved-among c.args.table.now c.args.plan.now c.front_of-front.result branch begins c.loop-len.flow c.move_to.new.flow c.in-Holds.ensures;
+      among = moved-among c.args.table.now c.args.plan.now c.front_of-front.result branch begins c.loop-len.flow c.move_to-moved.new.flow c.in-Holds.ensures;
       dear = subst (λ value. IsDear c.args.plan.now c.args.best.now branch value) worth c.if-is_dear.ensures;
-      unsettled = unsettled-both c.args.flow.now c.loop-len.flow c.move_to.new.flow c.loop-len.invariant.unsettled c.in-Holds.ensures.unsettled;
+      unsettled = unsettled-both c.args.flow.now c.loop-len.flow c.move_to-moved.new.flow c.loop-len.invariant.unsettled c.in-Holds.ensures.unsettled;
     }

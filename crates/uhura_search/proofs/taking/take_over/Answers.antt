@@ -1,14 +1,8 @@
-use Rattle.std.proofs.Common.{◌≡◌, ℕ, List, Option, sym, subst}
+use Rattle.std.proofs.Common.{List, Option, sym, subst}
 use Rattle.uhura_net.specs.declared.edge.Edge.{Edge}
-use Rattle.uhura_net.specs.Circulation.{edges_of}
 use Rattle.uhura_veto.specs.State.{State}
 use Rattle.uhura_worst.specs.Filled.{IsTableOf}
-use Rattle.uhura_conflict.specs.Learned.{IsLearned, IsValid, places_in}
-use Rattle.uhura_conflict.specs.Literals.{AreLiteralsOf}
-use Rattle.uhura_conflict.specs.Store.{conflict_at}
-use Rattle.uhura_search.specs.Guards.{AsksForGuards, AllAskForGuards}
-use Rattle.uhura_search.specs.Known.{IsStoreFor}
-use Rattle.uhura_search.specs.Learning.{IsLearningFor}
+use Rattle.uhura_search.specs.Guards.{AllAskForGuards}
 use Rattle.uhura_search.proofs.Guarded.{all-still-ask, store-for}
 use Rattle.uhura_search.proofs.taking.take_over.Goals as goal
 

@@ -1,4 +1,4 @@
-use Rattle.std.proofs.Common.{◌≡◌, [], inl, inr, sym, refl, append-nil}
+use Rattle.std.proofs.Common.{[], inl, inr, sym, refl, append-nil}
 use Rattle.std.proofs.lemmas.Result.{on_ok_weaker}
 use Rattle.uhura_veto.specs.State.{State}
 use Rattle.uhura_search.specs.declared.learning.Learning.{Learning}
@@ -17,7 +17,7 @@ pub returns-in-Stuck-clause-closes : goal.returns-in-Stuck-clause-closes
 returns-in-Stuck-clause-closes c =
     let state : State = record { plan = c.args.plan.now; vetoes = c.args.vetoes.now } in
     let old = c.args.learning.now in
-    let stuck : Learning = record old { flow = c.step.new.flow } in
+    let stuck : Learning = record old { flow = c.step.new.flow; stands = c.step.new.stands } in
     let keeps : KeepsLearned old stuck = record { store = refl; added = refl; table = refl; pushes = c.in-Stuck.ensures.pushes } in
     on_ok_weaker c.add_stuck.result
     (λ has. stuck-closes state old stuck c.add_stuck.new.learning c.args.branch.now c.requires.is_branch keeps c.in-Stuck.ensures.settles c.args.best.now c.requires.reached has)
@@ -27,7 +27,7 @@ pub returns-in-Stuck-clause-stops : goal.returns-in-Stuck-clause-stops
 returns-in-Stuck-clause-stops c =
     let state : State = record { plan = c.args.plan.now; vetoes = c.args.vetoes.now } in
     let old = c.args.learning.now in
-    let stuck : Learning = record old { flow = c.step.new.flow } in
+    let stuck : Learning = record old { flow = c.step.new.flow; stands = c.step.new.stands } in
     let new = c.add_stuck.new.learning in
     let keeps : KeepsLearned old stuck = record { store = refl; added = refl; table = refl; pushes = c.in-Stuck.ensures.pushes } in
     let stops = stuck-stops state old stuck new c.args.branch.now c.requires.is_branch keeps c.in-Stuck.ensures.settles c.requires.ready.counts in
@@ -37,7 +37,7 @@ pub returns-in-Dear-clause-closes : goal.returns-in-Dear-clause-closes
 returns-in-Dear-clause-closes c =
     let state : State = record { plan = c.args.plan.now; vetoes = c.args.vetoes.now } in
     let old = c.args.learning.now in
-    let moved : Learning = record old { flow = c.step.new.flow } in
+    let moved : Learning = record old { flow = c.step.new.flow; stands = c.step.new.stands } in
     let unsettled = c.in-Dear.ensures.unsettled in
     let keeps : KeepsLearned old moved = record { store = refl; added = refl; table = refl; pushes = unsettled.pushes } in
     on_ok_weaker c.learn_dear.result

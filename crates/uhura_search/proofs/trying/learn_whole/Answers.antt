@@ -1,4 +1,4 @@
-use Rattle.std.proofs.Common.{◌≡◌, [], inl, inr, sym, refl, append-nil}
+use Rattle.std.proofs.Common.{[], inl, inr, sym, refl, append-nil}
 use Rattle.std.proofs.lemmas.Result.{on_ok_weaker}
 use Rattle.uhura_veto.specs.State.{State}
 use Rattle.uhura_search.specs.declared.learning.Learning.{Learning}

@@ -30,7 +30,7 @@ invariant_of-self-2 c =
     let store = c.trim.new.self in
     let filled : IsTrue inside.filled = ap (λ (s : Searched). s.filled) c.self.view_is ∙ c.requires.filled in
     let have : HaveGuardsOf inside.guards.items state.plan.requirements = subst (λ (s : Searched). HaveGuardsOf s.guards state.plan.requirements) (sym c.self.view_is) c.requires.known.guards in
-    filled-held state (record { flow = learning.flow; table = learning.table; store = store; places = learning.places; added = learning.added }) inside.guards.items (Some c.in_ok-share.field-0) true inside.filled filled
+    filled-held state (record learning { store = store }) inside.guards.items (Some c.in_ok-share.field-0) true inside.filled filled
     c.self.invariant.sound.slots have (trimmed-learning state learning store 8388608 c.trim.ensures.trimmed.0 c.trim.ensures.trimmed.1 c.trim.ensures.sound c.ask.ensures.kept) (λ stands. refl)
 
 pub returns-clause-stands_for : goal.returns-clause-stands_for
