@@ -1,5 +1,6 @@
 pub mod Behind
 pub mod Covering
+pub mod Evening
 pub mod Going
 pub mod Keyed
 pub mod Leaves
