@@ -1,5 +1,5 @@
 -- The leaves of an evening show the answers to its first two questions.
-use Rattle.std.proofs.Common.{rules, ◌≡◌, ℕ, zero, suc, ◌≤◌, List, [], ◌∷◌, length, Some, subst, inl, inr, lit<, lit≤}
+use Rattle.std.proofs.Common.{rules, ◌≡◌, ℕ, zero, suc, ◌≤◌, List, [], ◌∷◌, ◌++◌, length, Some, All, refl, subst, inl, inr, lit<, lit≤, arith}
 use Rattle.std.specs.Prelude.{slice_get}
 use Rattle.std.proofs.lemmas.Option.{none-some, same_Some}
 use Rattle.std.proofs.lemmas.List.Elements.{All-nil, All-cons}
@@ -9,6 +9,7 @@ use Rattle.uhura_choice.specs.declared.prefix.Pick.TheVariants.{Alternative}
 use Rattle.uhura_choice.specs.Branch.{IsPrefix, IsEarlier}
 use Rattle.uhura_choice.proofs.Prefixes.{HaveAlternatives}
 use Rattle.uhura_shows.specs.Leaf.{LeafShown}
+use Rattle.uhura_shows.specs.Carried.{IsKeyedCirculation}
 use Rattle.uhura_shows.specs.Shows.{Answer, IsShownBy, Shows}
 use Rattle.uhura_shows.specs.Cover.{IsCover, Covers}
 use Rattle.uhura_shows.specs.Examples.{flow, denied}
@@ -71,8 +72,42 @@ second-covers =
     (join (one 0) (one 1) (two 0 0 ∷ three 0 1 0 ∷ three 0 1 1 ∷ []) (one 1 ∷ []) (inl (lit< tt)) late-covers
     (covers-itself evening_choices (one 1) (Alternative 0 ∷ Alternative 0 ∷ [], search rules))))
 
-is_shown : LeafShown → Answer → Type 0
-is_shown leaf answer = IsShownBy evening answer leaf.prefix leaf.reason
+soon-circulates : IsKeyedCirculation evening (too_soon 3)
+soon-circulates = record { carried = search rules; once = search rules; balanced = λ node. omega arith }
 
-early-clashes : IsShownBy evening (Some (three 1 0 0, 10)) (two 0 0) (flow (two 0 0) (too_soon 3)).reason
-early-clashes = search rules
+soon-circulates-too : IsKeyedCirculation without_thai (too_soon 3)
+soon-circulates-too = record { carried = search rules; once = search rules; balanced = λ node. omega arith }
+
+late-circulates : IsKeyedCirculation without_thai (too_late 2)
+late-circulates = record { carried = search rules; once = search rules; balanced = λ node. omega arith }
+
+pub first-shown : Shows evening (Some (three 1 0 0, 10)) first_leaves
+first-shown =
+    let P : LeafShown → Type 0 = λ leaf. IsShownBy evening (Some (three 1 0 0, 10)) leaf.prefix leaf.reason in
+    record {
+      cover = first-covers;
+      reasons =
+          All-cons P (flow (two 0 0) (too_soon 3)) (flow (two 0 1) [] ∷ flow (three 1 0 0) [] ∷ flow (three 1 0 1) [] ∷ flow (two 1 1) [] ∷ [])
+          (record { circulation = soon-circulates; settled = search rules; least = search rules; more = λ earlier. search rules })
+          (All-cons P (flow (two 0 1) []) (flow (three 1 0 0) [] ∷ flow (three 1 0 1) [] ∷ flow (two 1 1) [] ∷ []) (search rules)
+          (All-cons P (flow (three 1 0 0) []) (flow (three 1 0 1) [] ∷ flow (two 1 1) [] ∷ []) (search rules)
+          (All-cons P (flow (three 1 0 1) []) (flow (two 1 1) [] ∷ []) (search rules)
+          (All-cons P (flow (two 1 1) []) [] (search rules) (All-nil P)))));
+      whole = search rules;
+    }
+
+pub second-shown : Shows without_thai (Some (three 0 1 0, 35)) second_leaves
+second-shown =
+    let P : LeafShown → Type 0 = λ leaf. IsShownBy without_thai (Some (three 0 1 0, 35)) leaf.prefix leaf.reason in
+    record {
+      cover = second-covers;
+      reasons =
+          All-cons P (flow (two 0 0) (too_soon 3)) (flow (three 0 1 0) (too_late 2) ∷ flow (three 0 1 1) (too_late 2) ∷ denied (one 1) 0 ∷ [])
+          (record { circulation = soon-circulates-too; settled = search rules; least = search rules; more = λ earlier. search rules })
+          (All-cons P (flow (three 0 1 0) (too_late 2)) (flow (three 0 1 1) (too_late 2) ∷ denied (one 1) 0 ∷ [])
+          (record { circulation = late-circulates; settled = search rules; least = search rules; more = λ earlier. search rules })
+          (All-cons P (flow (three 0 1 1) (too_late 2)) (denied (one 1) 0 ∷ [])
+          (record { circulation = late-circulates; settled = search rules; least = search rules; more = λ earlier. search rules })
+          (All-cons P (denied (one 1) 0) [] (search rules) (All-nil P))));
+      whole = search rules;
+    }

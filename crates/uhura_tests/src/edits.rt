@@ -1,14 +1,11 @@
 //! Forty edits on one flow.
-ghost use Rattle.std.specs.Prelude.{◌≡◌, ◌<◌};
-ghost use Rattle.uhura_net.specs.Place.{is_loose};
+ghost use Rattle.std.specs.Prelude.{◌<◌};
 ghost use Rattle.uhura_flow.specs.Flow.{IsFlowEdge};
 
+use crate::edges::{NEAR, edge_for, is_loose};
 use std::alloc::{AllocError, Global};
 use uhura_flow::{Flow, Settled};
-use uhura_net::{Edge, FIRM_CAPACITY, Place};
-
-/// The places that are edited: those of six slots.
-const EDITED: u32 = 24;
+use uhura_net::{Edge, Place};
 
 /// What came of an edit.
 #[derive(Clone, Copy)]
@@ -29,9 +26,9 @@ fn keeps_the_optimum(rt: HostRuntime) -> Result<(), AllocError> {
     let mut seen = [false; 5];
     for _ in 0..40 {
         number = drawn(number);
-        let place = Place(number % EDITED);
+        let place = Place(number % NEAR);
         let (units, pushes) = (flow.units(place), flow.pushes());
-        seen[edit(&mut flow, place, number / EDITED) as usize] = true;
+        seen[edit(&mut flow, place, number / NEAR) as usize] = true;
         let moved = units.abs_diff(flow.units(place));
         assert!(rt; pushes <= flow.pushes() && flow.pushes() - pushes <= moved);
         let new = flow_of_the_same(rt.alloc(), &flow)?;
@@ -48,7 +45,7 @@ fn drawn(last: u32) -> u32 {
 
 /// Edits the place as the number says.
 fn edit(flow: &mut Flow, place: Place, number: u32) -> Edited
-    requires { place.0 < EDITED }
+    requires { place.0 < NEAR }
 {
     let edge = drawn_edge(place, number);
     if flow.edge(place).is_none() {
@@ -75,35 +72,19 @@ fn edit(flow: &mut Flow, place: Place, number: u32) -> Edited
 
 /// An edge for the place, between two of six nodes.
 fn drawn_edge(place: Place, number: u32) -> Edge
-    requires { place.0 < EDITED }
+    requires { place.0 < NEAR }
     ensures { IsFlowEdge place.0 result }
 {
     let from = number % 6;
-    Edge {
-        from,
-        to: (from + 1 + number / 6 % 5) % 6,
-        bound: i64::from(number / 30 % 60) - 20,
-        capacity: if is_loose(place) {
-            u64::from(1 + number % 9)
-        } else {
-            FIRM_CAPACITY
-        },
-    }
-}
-
-/// Whether the place is loose.
-fn is_loose(place: Place) -> bool
-    requires { place.0 < EDITED }
-    ensures { result ≡ is_loose place.0 }
-{
-    let row = place.0 % 4;
-    row == 0 || row == 2
+    let to = (from + 1 + number / 6 % 5) % 6;
+    let bound = i64::from(number / 30 % 60) - 20;
+    edge_for(place, from, to, bound, u64::from(1 + number % 9))
 }
 
 /// A new flow of the same edges.
 fn flow_of_the_same(alloc: Global, flow: &Flow) -> Result<Flow, AllocError> {
     let mut new = Flow::new(alloc)?;
-    for number in 0..EDITED {
+    for number in 0..NEAR {
         let place = Place(number);
         if let Some(edge) = flow.edge(place)
             && new.edge(place).is_none()

@@ -6,6 +6,10 @@
 #![tactic(auto)]
 
 #[cfg(test)]
+mod conflicts;
+#[cfg(test)]
+mod edges;
+#[cfg(test)]
 mod edits;
 #[cfg(test)]
 mod generated;

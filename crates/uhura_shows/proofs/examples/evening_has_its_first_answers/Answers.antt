@@ -1,0 +1,17 @@
+use Rattle.std.proofs.Common.{[], true≢false, sym, lit<, arith}
+use Rattle.std.proofs.lemmas.Int.{ints}
+use Rattle.uhura_shows.specs.Examples.{flow}
+use Rattle.uhura_shows.proofs.Evening.{first-shown, second-shown}
+use Rattle.uhura_shows.proofs.examples.evening_has_its_first_answers.Goals as goal
+
+pub returns-clause-first : goal.returns-clause-first
+returns-clause-first c = first-shown
+
+pub returns-clause-no_more : goal.returns-clause-no_more
+returns-clause-no_more c = λ shows. omega (arith, ints, (shows.reasons 2 (flow [] []) (lit< tt)).least)
+
+pub returns-clause-second : goal.returns-clause-second
+returns-clause-second c = second-shown
+
+pub returns-clause-not_denied : goal.returns-clause-not_denied
+returns-clause-not_denied c = λ shows. true≢false (sym (shows.reasons 3 (flow [] []) (lit< tt)))
