@@ -26,7 +26,7 @@ have = record { some = by }
     by (suc (suc zero)) c is = subst (λ (d : Choice). 1 ≤ length d.alternatives) (same_Some _ c is) (lit≤ tt)
     by (suc (suc (suc place))) c is = absurd (none-some c is)
 
-one : ℕ → List Pick
+abbrev one : ℕ → List Pick
 one restaurant = Alternative restaurant ∷ []
 
 -- a prefix, and two before another one, in the place of one

@@ -1,5 +1,5 @@
 //! What is learned of a flow is kept in a store, found and given up.
-ghost use Rattle.std.specs.Prelude.{◌≡◌, ◌<◌, [], None};
+ghost use Rattle.std.specs.Prelude.{◌≡◌, ◌<◌, All};
 ghost use Rattle.uhura_plan.specs.Lists.{empty};
 ghost use Rattle.uhura_flow.specs.Flow.{flow_edges, IsFlowEdge};
 ghost use Rattle.uhura_flow.specs.declared.settled.Settled.TheVariants.{Stuck};
@@ -35,8 +35,10 @@ fn keeps_what_was_learned(rt: HostRuntime) -> Result<(), AllocError> {
 
     let (latest, soonest) = (Place(3), Place(5));
     put(&mut flow, &mut table, latest, edge_for(latest, 0, 1, 20, 1));
-    let settled = put(&mut flow, &mut table, soonest, edge_for(soonest, 1, 0, -25, 1));
-    assert_eq!(rt; settled, Settled::Stuck);
+    let edge = edge_for(soonest, 1, 0, -25, 1);
+    let Settled::Stuck = put(&mut flow, &mut table, soonest, edge) else {
+        return Err(AllocError);
+    };
     learn_walk(rt.alloc(), &mut store, &plan, &flow, &table)?;
     assert_eq!(rt; store.best(&branch), Bound::Stuck { key: 1 });
     assert!(rt; store.share(1)?.expect(&rt, "kept").is_stuck());
@@ -47,7 +49,7 @@ fn keeps_what_was_learned(rt: HostRuntime) -> Result<(), AllocError> {
     Ok(())
 }
 
-/// Puts an edge into a table, and into a flow of edges of the table unless it is stuck.
+/// Puts an edge at an empty place into a table, and into a flow of edges of the table unless it is stuck.
 fn put(flow: &mut Flow, table: &mut EdgeTable, place: Place, edge: Edge) -> Settled
     requires place { place.0 < PLACES }
     requires edge { IsFlowEdge place.0 edge }
@@ -55,9 +57,10 @@ fn put(flow: &mut Flow, table: &mut EdgeTable, place: Place, edge: Edge) -> Sett
     ensures among { AreAmong (flow_edges flow.new) (edges_of table.new) }
     ensures walk { result ≡ Stuck →
         IsNegativeWalk (firm_edges (edges_of table.new)) flow.new.cycle }
+    ensures inside { result ≡ Stuck → All (λ place. place.0 < PLACES) flow.new.cycle }
 {
     if flow.edge(place).is_some() {
-        flow.remove(place);
+        return Settled::Optimal;
     }
     table.put(place, Some(edge));
     flow.insert(place, edge)
@@ -99,6 +102,7 @@ fn learn_walk(
 ) -> Result<(), AllocError>
     requires plan { plan.now ≡ empty }
     requires walk { IsNegativeWalk (firm_edges (edges_of table.now)) flow.now.cycle }
+    requires inside { All (λ place. place.0 < PLACES) flow.now.cycle }
 {
     let branch = first_branch(plan);
     store.revise(table);
