@@ -1,5 +1,5 @@
 -- An evening at a restaurant and then at the cinema, in minutes: what shows the answers to its first two questions.
-use Rattle.std.specs.Prelude.{ℕ, pos, List, [], ◌∷◌, None, Some, codes}
+use Rattle.std.specs.Prelude.{ℕ, pos, slice_index_or, List, [], ◌∷◌, None, Some, codes}
 use Rattle.uhura_plan.specs.declared.key.Side.TheVariants.{Lower, Upper}
 use Rattle.uhura_plan.specs.declared.key.EdgeKey.{EdgeKey}
 use Rattle.uhura_plan.specs.declared.key.EdgeKey.TheVariants.{Loose, Firm}
@@ -16,6 +16,9 @@ use Rattle.uhura_choice.specs.declared.prefix.Pick.TheVariants.{Alternative}
 use Rattle.uhura_veto.specs.declared.veto.Veto.TheVariants.{Deny}
 use Rattle.uhura_veto.specs.State.{State}
 use Rattle.uhura_worst.specs.Examples.{requirement_side, duration_side, unbounded, bounded, priced, flat}
+use Rattle.uhura_plan.specs.declared.key.SideKey.{SideKey}
+use Rattle.uhura_worst.specs.Units.{side_units}
+use Rattle.uhura_worst.specs.Proposal.{Proposal}
 use Rattle.uhura_shows.specs.Leaf.{LeafShown}
 use Rattle.uhura_shows.specs.Examples.{denied, flow}
 
@@ -211,3 +214,16 @@ abbrev pub second_leaves : List LeafShown
 second_leaves =
     flow (two 0 0) (too_soon 3) ∷ flow (three 0 1 0) (too_late 2)
     ∷ flow (three 0 1 1) (too_late 2) ∷ denied (Alternative 1 ∷ []) 0 ∷ []
+
+-- a proposal of this branch, with these units, and these times of the controllable events
+abbrev pub answer : List Pick → List (SideKey × ℕ) → List ℕ → Proposal
+answer branch pairs times = record {
+  branch = branch;
+  units = side_units pairs;
+  times = λ e. pos (slice_index_or times e 0);
+}
+
+-- the answer to the first question: nothing is loosened
+abbrev pub first_answer : Proposal
+first_answer =
+    answer (three 1 0 0) [] (0 ∷ 20 ∷ 20 ∷ 50 ∷ 95 ∷ 120 ∷ 150 ∷ 260 ∷ 310 ∷ [])

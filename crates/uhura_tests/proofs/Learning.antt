@@ -21,6 +21,9 @@ use Rattle.uhura_net.specs.Circulation.{Units, edges_of, IsCirculation, value_of
 use Rattle.uhura_net.specs.Optimal.{firm_edges}
 use Rattle.uhura_net.specs.Net.{net_value}
 use Rattle.uhura_flow.specs.Flow.{FlowState, flow_edges, flow_units, empty_flow}
+use Rattle.uhura_flow.specs.declared.settled.Settled.{Settled}
+use Rattle.uhura_flow.specs.declared.settled.Settled.TheVariants as settled
+use Rattle.uhura_flow.specs.Changes.{edges_with, IsSettled}
 use Rattle.uhura_conflict.specs.declared.bound.Bound.{Bound}
 use Rattle.uhura_conflict.specs.declared.bound.Bound.TheVariants.{Nothing, Flow, Stuck}
 use Rattle.uhura_conflict.specs.Learned.{Learned, places_in, units_in, AreUnitsOf, AreAmong, IsValid, walk_pairs}
@@ -110,9 +113,9 @@ pub walk-exceeds : (store : Stored) (picks : List Pick) (bound : Bound) (conflic
 walk-exceeds store picks bound conflict stuck none best = record { bound = bound; best = best; exceeds = by bound none }
   where
     by : (b : Bound) → ((key : ℕ) → b ≡ Stuck key → ⊥) → Exceeds store conflict b
-    by Nothing no = inl stuck
-    by (Flow value key) no = inl stuck
-    by (Stuck key) no = no key refl
+    by Nothing free = inl stuck
+    by (Flow value key) free = inl stuck
+    by (Stuck key) free = free key refl
 
 -- the empty flow has no edge
 pub empty-among : (flow : FlowState) (all : Edges) → flow ≡ empty_flow → AreAmong (flow_edges flow) all
@@ -123,3 +126,9 @@ empty-among flow all same place edge is =
 pub worth-above : (flow : FlowState) (value : ℤ) → value ≡ net_value flow.net → pos 0 <ℤ value → pos 0 <ℤ value_of PLACES (flow_edges flow) (flow_units flow)
 unfolding net_value
 worth-above flow value same above = subst (λ v. pos 0 <ℤ v) same above
+
+-- where an edge is stuck, the walk is one over a table with it
+pub settled-walk : (old new : FlowState) (place : ℕ) (edge : Edge) (result : Settled) (all : List (Option Edge)) → IsSettled old new place edge result → result ≡ settled.Stuck →
+    AreAmong (edges_of (edges_with old place (Some edge))) (edges_of all) → IsNegativeWalk (firm_edges (edges_of all)) new.cycle
+settled-walk old new place edge settled.Optimal all is stuck among = absurd (cc)
+settled-walk old new place edge settled.Stuck all is stuck among = walk-among (edges_of (edges_with old place (Some edge))) (edges_of all) new.cycle among is.walk

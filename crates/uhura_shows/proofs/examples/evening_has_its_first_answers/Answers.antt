@@ -2,7 +2,11 @@ use Rattle.std.proofs.Common.{[], true≢false, sym, lit<, arith}
 use Rattle.std.proofs.lemmas.Int.{ints}
 use Rattle.uhura_shows.specs.Examples.{flow}
 use Rattle.uhura_shows.proofs.Evening.{first-shown, second-shown}
+use Rattle.uhura_shows.proofs.EveningAllowed.{first-allowed}
 use Rattle.uhura_shows.proofs.examples.evening_has_its_first_answers.Goals as goal
+
+pub returns-clause-allowed : goal.returns-clause-allowed
+returns-clause-allowed c = first-allowed
 
 pub returns-clause-first : goal.returns-clause-first
 returns-clause-first c = first-shown
