@@ -1,5 +1,5 @@
 -- The leaves of an evening show the answers to its first two questions.
-use Rattle.std.proofs.Common.{rules, ◌≡◌, ℕ, zero, suc, ◌≤◌, List, [], ◌∷◌, ◌++◌, length, Some, All, refl, subst, inl, inr, lit<, lit≤, arith}
+use Rattle.std.proofs.Common.{rules, ◌≡◌, ℕ, zero, suc, ◌≤◌, List, [], ◌∷◌, ◌++◌, length, Some, refl, subst, inl, inr, lit<, lit≤, arith}
 use Rattle.std.specs.Prelude.{slice_get}
 use Rattle.std.proofs.lemmas.Option.{none-some, same_Some}
 use Rattle.std.proofs.lemmas.List.Elements.{All-nil, All-cons}
@@ -10,7 +10,7 @@ use Rattle.uhura_choice.specs.Branch.{IsPrefix, IsEarlier}
 use Rattle.uhura_choice.proofs.Prefixes.{HaveAlternatives}
 use Rattle.uhura_shows.specs.Leaf.{LeafShown}
 use Rattle.uhura_shows.specs.Carried.{IsKeyedCirculation}
-use Rattle.uhura_shows.specs.Shows.{Answer, IsShownBy, Shows}
+use Rattle.uhura_shows.specs.Shows.{IsShownBy, Shows}
 use Rattle.uhura_shows.specs.Cover.{IsCover, Covers}
 use Rattle.uhura_shows.specs.Examples.{flow, denied}
 use Rattle.uhura_shows.specs.Evening.{evening, without_thai, evening_choices, two, three, too_soon, too_late, first_leaves, second_leaves}

@@ -10,7 +10,6 @@ use Rattle.uhura_plan.specs.declared.requirement.Requirement.{Requirement}
 use Rattle.uhura_plan.specs.declared.requirement.Bounded.{Bounded}
 use Rattle.uhura_plan.specs.declared.uncertain.Uncertain.{Uncertain}
 use Rattle.uhura_plan.specs.declared.choice.Choice.{Choice}
-use Rattle.uhura_plan.specs.Lists.{Lists}
 use Rattle.uhura_choice.specs.declared.prefix.Pick.{Pick}
 use Rattle.uhura_choice.specs.declared.prefix.Pick.TheVariants.{Alternative}
 use Rattle.uhura_veto.specs.declared.veto.Veto.TheVariants.{Deny}
@@ -70,10 +69,13 @@ within least most = (bounded (pos least), bounded (pos most))
 
 -- a dinner of so many minutes, that may be up to 20 shorter, at 3 a minute
 abbrev pub dinner_within : ℕ → ℕ → Bounded × Bounded
-dinner_within least most = (record {
-  bound = Some (pos least);
-  price = Some (record { rate = 3; second = None; most = Some 20 });
-}, bounded (pos most))
+dinner_within least most = (
+  record {
+    bound = Some (pos least);
+    price = Some (record { rate = 3; second = None; most = Some 20 });
+  },
+  bounded (pos most),
+)
 
 -- the events, the controllable ones in their order and then the ends of the drives
 abbrev start : EventRef

@@ -1,6 +1,6 @@
 -- What is learned of a flow is valid for a table that has its edges, and applies to every branch of the empty plan.
-use Rattle.std.proofs.Common.{◌≡◌, ℕ, ◌<◌, ◌≤◌, pos, ◌<ℤ◌, ℤ, Bool, true, false, cond, List, length, set, get_or, Option, None, Some, inl, inr, refl, sym, ap, subst, ◌∙◌, arith, get_or-set_other}
-use Rattle.std.specs.Prelude.{All, Contains, IsTrue, IsFalse, IsSome, is_some}
+use Rattle.std.proofs.Common.{◌≡◌, ℕ, ◌<◌, pos, ◌<ℤ◌, ℤ, Bool, true, false, cond, List, length, set, get_or, Option, None, Some, inl, inr, refl, sym, ap, subst, ◌∙◌, arith, get_or-set_other}
+use Rattle.std.specs.Prelude.{All, Contains, IsTrue, IsFalse, IsSome}
 use Rattle.std.specs.Bool.{MatchBool}
 use Rattle.std.proofs.lemmas.Bool.{cases_eq, cases_lt}
 use Rattle.std.proofs.lemmas.Option.{none-some}

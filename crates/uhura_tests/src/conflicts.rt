@@ -27,7 +27,12 @@ fn keeps_what_was_learned(rt: HostRuntime) -> Result<(), AllocError> {
     let mut store = Store::new(rt.alloc())?;
     let (later, sooner) = (Place(2), Place(4));
     put(&mut flow, &mut table, later, edge_for(later, 0, 1, 10, 5));
-    put(&mut flow, &mut table, sooner, edge_for(sooner, 1, 0, -12, 3));
+    put(
+        &mut flow,
+        &mut table,
+        sooner,
+        edge_for(sooner, 1, 0, -12, 3),
+    );
     learn_flow(rt.alloc(), &mut store, &plan, &flow, &table)?;
     assert_eq!(rt; store.best(&branch), Bound::Flow { value: 6, key: 0 });
     let kept = store.share(0)?.expect(&rt, "kept");

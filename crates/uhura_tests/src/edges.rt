@@ -29,7 +29,11 @@ pub(crate) fn edge_for(place: Place, from: u32, to: u32, bound: i64, price: u64)
     requires price { IsUnitPrice price }
     ensures { IsFlowEdge place.0 result }
 {
-    let capacity = if is_loose(place) { price } else { FIRM_CAPACITY };
+    let capacity = if is_loose(place) {
+        price
+    } else {
+        FIRM_CAPACITY
+    };
     Edge {
         from,
         to,
