@@ -1,5 +1,5 @@
 -- The answer to an evening's first question is allowed.
-use Rattle.std.proofs.Common.{rules, ◌≡◌, ℕ, zero, suc, ◌-ℤ◌, ◌≤ℤ◌, [], Some, true≢false, refl, sym, subst, lit≤, arith}
+use Rattle.std.proofs.Common.{rules, ◌≡◌, ℕ, zero, suc, ◌-ℤ◌, ◌≤ℤ◌, [], Some, refl, subst, lit≤, arith}
 use Rattle.std.specs.Prelude.{IsTrue, slice_get}
 use Rattle.std.proofs.lemmas.Int.{ints}
 use Rattle.std.proofs.lemmas.Option.{none-some, same_Some}
@@ -42,63 +42,6 @@ first-allowed = record {
       let back = within 4 _ refl in
       let P : Requirement → Type 0 = λ r. IsTrue (holds r.guard first_answer.branch) → IsWithin 1 first_answer r (time_of evening.plan first_answer durations r.to -ℤ time_of evening.plan first_answer durations r.from) in
       All-contains P evening_requirements r
-      (All-from_recursion P evening_requirements (
-        λ active. record { lower = omega (arith, ints); upper = tt },
-        (
-          λ active. record { lower = omega (arith, ints); upper = omega (arith, ints) },
-          (
-            λ active. record { lower = omega (arith, ints); upper = omega (arith, ints) },
-            (
-              λ active. absurd (true≢false (sym active)),
-              (
-                λ active. record { lower = omega (arith, ints, thai.0, thai.1); upper = tt },
-                (
-                  λ active. absurd (true≢false (sym active)),
-                  (
-                    λ active. record { lower = omega (arith, ints); upper = omega (arith, ints) },
-                    (
-                      λ active. absurd (true≢false (sym active)),
-                      (
-                        λ active. record { lower = omega (arith, ints, cinema.0, cinema.1); upper = tt },
-                        (
-                          λ active. record { lower = omega (arith, ints); upper = omega (arith, ints) },
-                          (
-                            λ active. record { lower = omega (arith, ints); upper = omega (arith, ints) },
-                            (
-                              λ active. absurd (true≢false (sym active)),
-                              (
-                                λ active. record { lower = omega (arith, ints); upper = omega (arith, ints) },
-                                (
-                                  λ active. record { lower = omega (arith, ints, back.0, back.1); upper = tt },
-                                  (
-                                    λ active. record { lower = tt; upper = omega (arith, ints) },
-                                    (
-                                      λ active. record { lower = tt; upper = omega (arith, ints) },
-                                      (
-                                        λ active. record { lower = omega (arith, ints); upper = tt },
-                                        (
-                                          λ active. absurd (true≢false (sym active)),
-                                          (
-                                            λ active. record { lower = tt; upper = omega (arith, ints) },
-                                            (λ active. record { lower = tt; upper = omega (arith, ints) }, tt),
-                                          ),
-                                        ),
-                                      ),
-                                    ),
-                                  ),
-                                ),
-                              ),
-                            ),
-                          ),
-                        ),
-                      ),
-                    ),
-                  ),
-                ),
-              ),
-            ),
-          ),
-        ),
-      ))
+      (All-from_recursion P evening_requirements (search rules))
       member;
 }
