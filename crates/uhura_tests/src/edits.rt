@@ -35,6 +35,7 @@ fn keeps_the_optimum(rt: HostRuntime) -> Result<(), AllocError> {
         assert_eq!(rt; flow.value(), new.value());
     }
     assert_eq!(rt; seen, [true; 5]);
+    assert!(rt; flow.pushes() > 0 && flow.value() > 0);
     Ok(())
 }
 
@@ -77,7 +78,7 @@ fn drawn_edge(place: Place, number: u32) -> Edge
 {
     let from = number % 6;
     let to = (from + 1 + number / 6 % 5) % 6;
-    let bound = i64::from(number / 30 % 60) - 20;
+    let bound = i64::from(number / 30 % 60) - 30;
     edge_for(place, from, to, bound, u64::from(1 + number % 9))
 }
 
