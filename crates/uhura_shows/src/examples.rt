@@ -102,6 +102,8 @@ pub fn evening_has_its_first_answers()
     ensures cost { cost evening.plan 1 first_answer ≡ 10 }
     ensures first { Shows evening (Some (first_answer.branch, 10)) first_leaves }
     ensures no_more { Shows evening (Some (three 1 0 0, 11)) first_leaves → ⊥ }
+    ensures cheapest { IsCheapest evening first_answer }
+    ensures earliest_branch { IsFirst evening first_answer }
     ensures second { Shows without_thai (Some (three 0 1 0, 35)) second_leaves }
     ensures not_denied { Shows evening (Some (three 0 1 0, 35)) second_leaves → ⊥ }
 {}
