@@ -1,5 +1,8 @@
 pub mod Behind
 pub mod Covering
+pub mod Evening
+pub mod EveningAllowed
+pub mod EveningSound
 pub mod Going
 pub mod Keyed
 pub mod Leaves

@@ -18,7 +18,7 @@ use Rattle.uhura_shows.specs.Examples.{flow, left, right, clash_by, both_sides, 
 use Rattle.uhura_shows.proofs.Covering.{covers-themselves, covers-itself, covers-append, covers-up, covers-all, the-one}
 
 -- two prefixes in order
-pair-covers : (cs : List Choice) (a b : List Pick) → IsPrefix cs a → IsPrefix cs b → IsEarlier a b → Covers cs (a ∷ b ∷ []) (a ∷ b ∷ [])
+pub pair-covers : (cs : List Choice) (a b : List Pick) → IsPrefix cs a → IsPrefix cs b → IsEarlier a b → Covers cs (a ∷ b ∷ []) (a ∷ b ∷ [])
 pair-covers cs a b is_a is_b before =
     covers-themselves cs (a ∷ b ∷ []) (All-cons (IsPrefix cs) a (b ∷ []) is_a (All-cons (IsPrefix cs) b [] is_b (All-nil (IsPrefix cs))))
     (AllPairs-cons IsEarlier a (b ∷ []) (All-cons (IsEarlier a) b [] before (All-nil (IsEarlier a)))

@@ -4,3 +4,4 @@ pub mod Behind
 pub mod Carried
 pub mod Shows
 pub mod Examples
+pub mod Evening

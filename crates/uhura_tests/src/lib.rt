@@ -8,7 +8,13 @@
 #[cfg(test)]
 mod checks;
 #[cfg(test)]
+mod conflicts;
+#[cfg(test)]
 mod documents;
+#[cfg(test)]
+mod edges;
+#[cfg(test)]
+mod edits;
 #[cfg(test)]
 mod generated;
 #[cfg(test)]
