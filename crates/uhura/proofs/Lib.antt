@@ -3,3 +3,4 @@ pub mod Pieces
 pub mod Standing
 pub mod Telling
 pub mod Sending
+pub mod Measuring

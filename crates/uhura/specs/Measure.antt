@@ -1,5 +1,5 @@
 -- What is told of a measured plan.
-use Rattle.std.specs.Prelude.{ℕ, pos, List, [], ◌∷◌, ◌++◌, codes, length, Option, None, Some}
+use Rattle.std.specs.Prelude.{◌≡◌, ℕ, pos, List, [], ◌∷◌, ◌++◌, codes, length, Option, None, Some}
 use Rattle.std.specs.Io.KnownBytes.{Appends}
 use Rattle.uhura_io.specs.Streams.{AppendsFront}
 use Rattle.uhura_text.specs.Lines.{lines}
@@ -37,11 +37,18 @@ abbrev pub measure_text : Document → List ℕ
 measure_text d = line_of (codes "leaves" ∷ spelling (pos (length d.leaves)) ∷ [])
     ++ cost_line d.answer ++ line_of (codes "confirmed" ∷ [])
 
--- by the status: this was written of a document; or a front of it; or nothing
+-- the text tells of the document of the plan of this number
+abbrev pub TellsOf : ℕ → List ℕ → Type 0
+TellsOf number text = (d : Document) × IsMeasured number d × (text ≡ measure_text d)
+
+-- by the status: the text was written, or a front of it
+abbrev pub IsTold : List ℕ → Option (List ℕ) → Option (List ℕ) → Status → Type 0
+IsTold text old new Done = Appends old new text
+IsTold text old new WriteFault = AppendsFront old new text
+IsTold text old new _ = ⊥
+
+-- by the status: such a text was written; or a front of it; or nothing
 abbrev pub Measures : ℕ → Option (List ℕ) → Option (List ℕ) → Status → Type 0
-Measures number old new Done =
-    (d : Document) × IsMeasured number d × Appends old new (measure_text d)
-Measures number old new WriteFault =
-    (d : Document) × IsMeasured number d × AppendsFront old new (measure_text d)
 Measures number old new NoMemory = Appends old new []
-Measures number old new _ = ⊥
+Measures number old new status =
+    (text : List ℕ) × TellsOf number text × IsTold text old new status

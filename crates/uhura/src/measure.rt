@@ -7,8 +7,10 @@ ghost use Rattle.uhura_cert.specs.declared.document.Proposal.{Proposal as Stated
 ghost use Rattle.uhura_cert.specs.Text.{IsRead};
 ghost use Rattle.uhura_check.specs.Confirmed.{Confirmed};
 ghost use Rattle.uhura_proof.specs.Proof.{IsProof};
+ghost use Rattle.uhura_search.specs.Searcher.{StandsFor};
 ghost use Rattle.uhura_session.specs.Answers.{IsProved};
-ghost use Rattle.uhura.specs.Measure.{measured_state, IsMeasured, measure_text, cost_line, Measures};
+ghost use Rattle.uhura.specs.Measure.{measured_state, IsMeasured, measure_text, cost_line};
+ghost use Rattle.uhura.specs.Measure.{TellsOf, IsTold, Measures};
 ghost use Rattle.uhura.specs.Run.{MeetsWriteFault};
 
 use crate::Status;
@@ -34,18 +36,30 @@ pub(crate) fn measure<K: Sink>(alloc: Global, number: u32, sink: &mut K) -> Stat
     ensures told { Measures number (K.written sink.old) (K.written sink.new) result }
     ensures write_fault { MeetsWriteFault result (K.faults sink.old) (K.faults sink.new) }
 {
-    let document = match measured_document(alloc, number) {
-        Ok(document) => document,
-        Err(AllocError) => return Status::NoMemory,
-    };
-    let text = match measure_text(alloc, &document) {
-        Ok(text) => text,
-        Err(AllocError) => return Status::NoMemory,
-    };
-    match write_all(sink, &text) {
+    match measured_text(alloc, number) {
+        Ok(text) => tell(&text, sink),
+        Err(AllocError) => Status::NoMemory,
+    }
+}
+
+/// Writes what is told of a measured plan.
+fn tell<K: Sink>(text: &[u8], sink: &mut K) -> Status
+    ensures told { IsTold text.now (K.written sink.old) (K.written sink.new) result }
+    ensures write_fault { MeetsWriteFault result (K.faults sink.old) (K.faults sink.new) }
+{
+    match write_all(sink, text) {
         Ok(()) => Status::Done,
         Err(Failed) => Status::WriteFault,
     }
+}
+
+/// What is told of the plan of this number.
+fn measured_text(alloc: Global, number: u32) -> Result<Vec<u8>, AllocError>
+    requires { IsSeed number }
+    ensures { IfOk result (λ text. TellsOf number text.items) }
+{
+    let document = measured_document(alloc, number)?;
+    measure_text(alloc, &document)
 }
 
 /// The document of the answer for the plan of this number.
@@ -62,15 +76,56 @@ fn proved_text(alloc: Global, number: u32) -> Result<Vec<u8>, AllocError>
     requires { IsSeed number }
     ensures { IfOk result (λ text. IsProved (measured_state number) text.items) }
 {
-    let state = State {
-        plan: plan_of(alloc, number, EVENTS)?,
-        vetoes: Vetoes::new(alloc)?,
-    };
+    let state = measured_state(alloc, number)?;
+    prove_anew(alloc, &state)
+}
+
+/// The plan of this number, without vetoes.
+fn measured_state(alloc: Global, number: u32) -> Result<State, AllocError>
+    requires { IsSeed number }
+    ensures { IfOk result (λ state. state ≡ measured_state number) }
+{
+    let vetoes = Vetoes::new(alloc)?;
+    let plan = plan_of(alloc, number, EVENTS)?;
+    Ok(State { plan, vetoes })
+}
+
+/// What `prove` answers in a state, by a searcher that has learned nothing.
+fn prove_anew(alloc: Global, state: &State) -> Result<Vec<u8>, AllocError>
+    ensures { IfOk result (λ text. IsProved state.now text.items) }
+{
     let mut searcher = Searcher::new(alloc)?;
+    prove_by(alloc, state, &mut searcher)
+}
+
+/// The same, by a searcher that stands for the state.
+fn prove_by(
+    alloc: Global,
+    state: &State,
+    searcher: &mut Searcher,
+) -> Result<Vec<u8>, AllocError>
+    requires { StandsFor searcher.old state.now }
+    ensures { IfOk result (λ text. IsProved state.now text.items) }
+{
     let mut relax = RelaxScratch::new(alloc)?;
+    prove_in(alloc, state, searcher, &mut relax)
+}
+
+/// The same, in room to work in.
+fn prove_in(
+    alloc: Global,
+    state: &State,
+    searcher: &mut Searcher,
+    relax: &mut RelaxScratch,
+) -> Result<Vec<u8>, AllocError>
+    requires { StandsFor searcher.old state.now }
+    ensures { IfOk result (λ text. IsProved state.now text.items) }
+{
     let mut text = Vec::new(alloc);
-    prove(alloc, &state, &mut searcher, &mut relax, &mut text)?;
-    Ok(text)
+    match prove(alloc, state, searcher, relax, &mut text) {
+        Ok(()) => Ok(text),
+        Err(error) => Err(error),
+    }
 }
 
 /// Reads and checks the text of a proof. By the laws of proofs it is read and confirmed, where there is memory.
@@ -79,11 +134,19 @@ fn checked_document(alloc: Global, text: &[u8]) -> Result<Document, AllocError>
     ensures read { IfOk result (IsRead (lines text.now)) }
     ensures confirmed { IfOk result Confirmed }
 {
-    let document = match read_document(alloc, text) {
-        Ok(document) => document,
-        Err(DocumentRefusal::Memory(error)) => return Err(error),
+    match read_document(alloc, text) {
+        Ok(document) => confirmed(alloc, document),
+        Err(DocumentRefusal::Memory(error)) => Err(error),
         Err(DocumentRefusal::Malformed { .. }) => unreachable!(),
-    };
+    }
+}
+
+/// The document, once it is checked.
+fn confirmed(alloc: Global, document: Document) -> Result<Document, AllocError>
+    requires { Confirmed document }
+    ensures same { IfOk result (λ same. same ≡ document) }
+    ensures confirmed { IfOk result Confirmed }
+{
     match check(alloc, &document) {
         Ok(()) => Ok(document),
         Err(CheckRefusal::Memory(error)) => Err(error),
