@@ -1,11 +1,11 @@
 -- What a proposal costs at most.
-use Rattle.std.proofs.Common.{◌≡◌, ℕ, zero, suc, ◌+◌, ◌-◌, ◌*◌, ◌<◌, ◌≤◌, List, [], ◌∷◌, length, Option, None, Some, slice_get, refl, inl, inr, arith, lit≤}
+use Rattle.std.proofs.Common.{◌≡◌, ℕ, zero, suc, ◌+◌, ◌-◌, ◌*◌, ◌≤◌, List, [], ◌∷◌, length, Option, None, Some, slice_get, refl, inl, inr, arith, lit≤}
 use Rattle.std.specs.Prelude.{All, IfSome, sum_by, unwrap_or, option_map}
 use Rattle.std.specs.Option.{option_map_or}
 use Rattle.std.proofs.Math.Nat.{mul-le-mul}
 use Rattle.std.proofs.lemmas.List.Elements.{All-contains, All-head, All-tail, All-weaker}
 use Rattle.std.proofs.lemmas.List.Sums.{sum_by-le}
-use Rattle.uhura_plan.specs.declared.limits.TheConstants.{AMOUNT, UNIT_PRICE}
+use Rattle.uhura_plan.specs.declared.limits.TheConstants.{AMOUNT}
 use Rattle.uhura_plan.specs.declared.key.Side.{Side}
 use Rattle.uhura_plan.specs.declared.key.Side.TheVariants.{Lower, Upper}
 use Rattle.uhura_plan.specs.declared.key.SideKey.{SideKey}
@@ -13,12 +13,11 @@ use Rattle.uhura_plan.specs.declared.choice.Choice.{Choice}
 use Rattle.uhura_plan.specs.declared.price.Price.{Price}
 use Rattle.uhura_plan.specs.declared.price.Rate.{Rate}
 use Rattle.uhura_plan.specs.declared.price.Second.{Second}
-use Rattle.uhura_plan.specs.declared.requirement.Bounded.{Bounded}
 use Rattle.uhura_plan.specs.declared.requirement.Requirement.{Requirement}
 use Rattle.uhura_plan.specs.declared.uncertain.Uncertain.{Uncertain}
-use Rattle.uhura_plan.specs.Limits.{IsAmount, IsPrice, IsRate, IsSecond, AreWithinLimits}
+use Rattle.uhura_plan.specs.Limits.{IsAmount, IsPrice, IsRate, IsSecond}
 use Rattle.uhura_plan.specs.Lists.{Lists}
-use Rattle.uhura_plan.specs.Sides.{bounded_of, loosening_rate, rate_of}
+use Rattle.uhura_plan.specs.Sides.{loosening_rate, rate_of}
 use Rattle.uhura_plan.specs.Sound.{IsSound, IsSoundRequirement, IsSoundUncertain}
 use Rattle.uhura_choice.specs.declared.prefix.Pick.{Pick}
 use Rattle.uhura_choice.specs.declared.prefix.Pick.TheVariants.{Alternative, Inactive}

@@ -14,7 +14,6 @@ use Rattle.uhura_plan.specs.declared.key.Item.{Item}
 use Rattle.uhura_plan.specs.declared.key.Item.TheVariants as item
 use Rattle.uhura_plan.specs.declared.key.SideKey.{SideKey}
 use Rattle.uhura_plan.specs.declared.requirement.Requirement.{Requirement}
-use Rattle.uhura_plan.specs.Find.{requirement_in}
 use Rattle.uhura_plan.specs.Lists.{Lists, slots}
 use Rattle.uhura_plan.specs.Sound.{IsSound}
 use Rattle.uhura_choice.specs.declared.prefix.Pick.{Pick}

@@ -1,5 +1,5 @@
 -- What is read off the potentials of an answer, with the earliest schedule under it, is a best proposal.
-use Rattle.std.proofs.Common.{◌≡◌, ℕ, ◌*◌, ◌≤◌, List, refl, sym, ap, ◌∙◌, subst, lit≤}
+use Rattle.std.proofs.Common.{◌≡◌, ℕ, ◌≤◌, List, refl, sym, ap, ◌∙◌, subst, lit≤}
 use Rattle.std.specs.Prelude.{ℤ, length}
 use Rattle.uhura_plan.specs.declared.key.SideKey.{SideKey}
 use Rattle.uhura_plan.specs.declared.guard.Literal.{Literal}
@@ -17,13 +17,11 @@ use Rattle.uhura_worst.specs.WorstCase.{proposal_at}
 use Rattle.uhura_relax.specs.Schedule.{proposal_with, scheduled_time, IsEarliestSchedule}
 use Rattle.uhura_dual.specs.ReadOff.{passed_side, passed_sides}
 use Rattle.uhura_dual.proofs.ReadOff.{read_off-same}
-use Rattle.uhura_search.specs.declared.leaf.LeafNote.{LeafNote}
-use Rattle.uhura_search.specs.Answer.{IsFoundFor}
 use Rattle.uhura_search.proofs.Found.{found-allowed, found-cheapest, found-first}
 use Rattle.uhura_cert.specs.declared.document.Proposal.{Proposal as Stated}
 use Rattle.uhura_check.specs.Confirmed.{picks_of, proposal_of}
 use Rattle.uhura_answer.specs.Literals.{literals_of}
-use Rattle.uhura_answer.specs.Stated.{IsBestStated, IsFound, IsStatedWith}
+use Rattle.uhura_answer.specs.Stated.{IsFound, IsStatedWith}
 use Rattle.uhura_answer.proofs.PickedLiterals.{branch-among, literals-rise, picks-branch}
 use Rattle.uhura_answer.proofs.ReadSides.{sides-stated}
 use Rattle.uhura_answer.proofs.Bounds.{units-most, cost-most}

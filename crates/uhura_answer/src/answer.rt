@@ -1,5 +1,5 @@
 //! The stated answer.
-ghost use Rattle.std.specs.Prelude.{◌≡◌, ℕ, ℤ, IfOk};
+ghost use Rattle.std.specs.Prelude.{ℕ, ℤ, IfOk};
 ghost use Rattle.uhura_worst.specs.Allowed.{Allowed};
 ghost use Rattle.uhura_relax.specs.Schedule.{proposal_with, IsEarliestSchedule};
 ghost use Rattle.uhura_search.specs.Answer.{IsAnswerTo};

@@ -1,8 +1,6 @@
 use Rattle.std.proofs.Common.{ap, subst}
-use Rattle.uhura_plan.specs.Lists.{Lists}
 use Rattle.uhura_plan.specs.Sound.{IsSound}
 use Rattle.uhura_veto.specs.State.{State}
-use Rattle.uhura_shows.specs.Shows.{Shows}
 use Rattle.uhura_shows.proofs.Leaves.{leaves-none}
 use Rattle.uhura_search.specs.Answer.{IsAnswerTo, shown_leaves}
 use Rattle.uhura_answer.proofs.answer.stated_answer.Goals as goal

@@ -7,10 +7,10 @@ use Rattle.uhura_answer.proofs.answer.stated_proposal.Goals as goal
 
 pub earliest_times-requires : goal.earliest_times-requires
 earliest_times-requires c = (
-      time_at c.args.potentials.now,
-      read-allowed c.args.state.now c.args.branch.now c.args.cost c.args.potentials.now c.in_ok-loosening.loosening c.state.inside.plan (ap (λ (s : State). s.plan) c.state.view_is) c.requirements.ensures.sound c.requires
+  time_at c.args.potentials.now,
+  read-allowed c.args.state.now c.args.branch.now c.args.cost c.args.potentials.now c.in_ok-loosening.loosening c.state.inside.plan (ap (λ (s : State). s.plan) c.state.view_is) c.requirements.ensures.sound c.requires
       c.in_ok-loosening.ensures.units,
-    )
+)
 
 pub returns : goal.returns
 returns c =
