@@ -5,7 +5,7 @@ use Rattle.uhura_cert.specs.Items.{lines_of}
 use Rattle.uhura_cert.specs.Text.{IsFirstMalformed}
 use Rattle.uhura_cert.specs.Machine.{start, done, IsPlain, Good, Takes}
 use Rattle.uhura_cert.specs.OneByOne.{RefusedLinesAreMalformed, LinesEndTooEarly, TakenLinesAreRead}
-use Rattle.uhura_cert.proofs.Laws.{IsFirstBy, refused_there, ends_early, is_fit, is_text, no_other}
+use Rattle.uhura_cert.proofs.RunLaws.{IsFirstBy, refused_there, ends_early, is_fit, is_text, no_other}
 use Rattle.uhura_cert.proofs.MachineLaws.{shown_lines, machine_laws}
 use Rattle.uhura_cert.proofs.PlainDocuments.{plain_document, document_plain, has_plain}
 

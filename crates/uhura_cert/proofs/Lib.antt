@@ -2,7 +2,7 @@ pub mod Walk
 pub mod PickLines
 pub mod Unloosened
 pub mod UnloosenedText
-pub mod Laws
+pub mod RunLaws
 pub mod ItemsFit
 pub mod Writing
 pub mod Ordered
@@ -22,3 +22,6 @@ pub mod EndOf
 pub mod Nexts
 pub mod Taken
 pub mod PrefixNames
+pub mod RisingSides
+pub mod ReadLines
+pub mod LinesTaken

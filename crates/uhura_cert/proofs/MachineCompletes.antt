@@ -20,7 +20,7 @@ use Rattle.uhura_cert.specs.declared.document.Reason.TheVariants as reason
 use Rattle.uhura_cert.specs.Document.{Document, IsReasonOf, MayStand}
 use Rattle.uhura_cert.specs.Items.{leaf_items, picked_names, to_shared, to_leaves, to_question, to_picks, items_of}
 use Rattle.uhura_cert.specs.Machine.{Spot, script, picks, sides, times, entry_flow, entry_walk, leaf_head, leaf_flow, leaf_walk, in_place, begun, IsPlain, IsPlainFront, IsBegun, Good, shown, with_entry, with_leaf, proposal_of, leaf_of}
-use Rattle.uhura_cert.proofs.Laws.{GoesOn}
+use Rattle.uhura_cert.proofs.RunLaws.{GoesOn}
 use Rattle.uhura_cert.proofs.MachineSteps.{Follows, leafless, leaf_closed, entry_closed, plain_leaf, plain_entry, no_edges, one_line_leaf, timeless, from_times, from_question}
 
 -- some document goes on from these lines

@@ -18,7 +18,7 @@ use Rattle.uhura_cert.specs.Document.{Document}
 use Rattle.uhura_cert.specs.Items.{items_of, lines_of}
 use Rattle.uhura_cert.specs.Machine.{Spot, start, script, question, picks, sides, times, entries, entry_flow, entry_walk, leaves, leaf_head, leaf_flow, leaf_walk, done, in_place, IsPlain, IsBegun, Good, shown, FromStart, FromScript, Step, Moves, Takes}
 use Rattle.uhura_cert.specs.Run.{Run}
-use Rattle.uhura_cert.proofs.Laws.{Laws, GoesOn}
+use Rattle.uhura_cert.proofs.RunLaws.{Laws, GoesOn}
 use Rattle.uhura_cert.proofs.ItemsFit.{items_fit}
 use Rattle.uhura_cert.proofs.FirstParts.{none_of}
 use Rattle.uhura_cert.proofs.MachineSteps.{Follows, from_leaves, from_entries, from_entry_flow, from_entry_walk, from_leaf_head, from_leaf_flow, from_leaf_walk, from_times, from_sides, from_picks, from_question}

@@ -25,7 +25,7 @@ use Rattle.uhura_cert.specs.Document.{HasPlacesAsSlots, Document, FitsPlan, AreE
 use Rattle.uhura_cert.specs.Items.{pick_item, relax_item, time_item, units_item, edge_item, to_cost, to_picks, to_sides, to_times, proposal_items, answer_items, shared_items, reason_items, edge_name, leaf_items, picked_names, to_version, to_script, to_question, to_answer, to_shared, to_leaves, items_of}
 use Rattle.uhura_cert.specs.Machine.{Spot, start, script, question, picks, sides, times, entries, entry_flow, entry_walk, leaves, leaf_head, leaf_flow, leaf_walk, done, in_place, answered, IsPlain, IsPlainFront, HasReason, IsNextEdge, IsNextSide, edge_named, with_entry, with_leaf, proposal_of, leaf_of, FromTimes, FromLeaves, FromEntries, Step, Moves}
 use Rattle.uhura_cert.specs.Run.{Run}
-use Rattle.uhura_cert.proofs.Laws.{run-append}
+use Rattle.uhura_cert.proofs.RunLaws.{run-append}
 use Rattle.uhura_cert.proofs.Ordered.{rises_at, all_at, runs_each}
 use Rattle.uhura_cert.proofs.MachineSteps.{plain_entry, plain_leaf, plain_answer}
 use Rattle.uhura_cert.proofs.FoundNames.{literal_forth, item_forth, edge_forth, veto_forth, picks_forth}

@@ -1,5 +1,5 @@
 -- Plain documents, whose slots are places, are documents; and each document has a plain one with the same lines.
-use Rattle.std.proofs.Common.{◌≡◌, ℕ, zero, suc, ◌+◌, ◌*◌, ◌≤◌, Bool, true, false, ◌==◌, List, [], ◌∷◌, ◌++◌, length, map, flat_map, find, Option, Some, None, IsSome, IfSome, All, slice_get, refl, sym, ap, subst, ◌∙◌, arith}
+use Rattle.std.proofs.Common.{◌≡◌, ℕ, zero, suc, ◌+◌, ◌*◌, ◌≤◌, Bool, true, false, ◌==◌, List, [], ◌∷◌, ◌++◌, length, map, flat_map, find, Option, Some, None, option_map, IsSome, IfSome, All, slice_get, refl, sym, ap, subst, ◌∙◌, arith}
 use Rattle.std.specs.Prelude.{if◌then◌else◌}
 use Rattle.std.specs.List.{AllByRecursion, position_or_len, zip}
 use Rattle.std.proofs.lemmas.Bool.Decides.{Decides-eqb}
@@ -22,13 +22,13 @@ use Rattle.uhura_veto.specs.Vetoes.{HasName, IsSoundVeto, IsItemOf, IsVetoOf, ve
 use Rattle.uhura_veto.proofs.Items.{IsItemOf-named}
 use Rattle.uhura_line.specs.declared.command.Command.{Command}
 use Rattle.uhura_line.specs.declared.command.Command.TheVariants as command
-use Rattle.uhura_command.specs.Replay.{in_slot}
+use Rattle.uhura_command.specs.Replay.{in_slot, IsSameUpToSlots as IsSameStateUpToSlots}
 use Rattle.uhura_command.specs.Script.{name_at, uncertain_command, choice_command, requirement_command, commands_of}
 use Rattle.uhura_command.specs.State.{IsSoundState}
 use Rattle.uhura_command.proofs.CountedItems as numbers
 use Rattle.uhura_command.proofs.CountedItems.{counted, moved, item_shown, item_found}
 use Rattle.uhura_command.proofs.MakesVetoes.{remade, remade_commands}
-use Rattle.uhura_command.proofs.Numbering.{numbered, numbered_names, length-numbered}
+use Rattle.uhura_command.proofs.Numbering.{numbered, numbered_names, same_but_slots, length-numbered}
 use Rattle.uhura_item.specs.declared.item.Item.TheVariants as item
 use Rattle.uhura_item.specs.declared.item.EdgeKind.TheVariants as kind
 use Rattle.uhura_item.specs.declared.item.EdgeName.TheVariants.{Side}
@@ -44,6 +44,7 @@ use Rattle.uhura_cert.specs.Order.{place_in, item_place, side_number, side_place
 use Rattle.uhura_cert.specs.Document.{Document, FitsPlan, AreEdgeUnits, AreEdges, IsShared, IsReasonOf, MayStand, IsLeaf, HasFittingParts, IsDocument, HasPlacesAsSlots}
 use Rattle.uhura_cert.specs.Items.{relax_item, time_item, units_item, edge_item, edge_name, to_picks, proposal_items, answer_items, shared_items, reason_items, leaf_items, picked_names, items_of, lines_of}
 use Rattle.uhura_cert.specs.Machine.{in_place, IsPlain}
+use Rattle.uhura_cert.specs.ReadsBack.{placed_thing, placed_side, placed_edge, placed_relaxed, placed_units, placed_proposal, placed_shared, placed_reason, placed_leaf, IsSameUpToSlots}
 use Rattle.uhura_cert.proofs.ItemsFit.{all_mapped}
 use Rattle.uhura_cert.proofs.MachineScript.{slot_there}
 use Rattle.uhura_cert.proofs.ScriptRuns.{CountsFrom, counts_all}
@@ -422,6 +423,55 @@ module _ (state : State) (sound : IsSoundState state) where
   abbrev move_leaf : Leaf → Leaf
   move_leaf leaf = record { prefix = leaf.prefix; reason = move_reason leaf.reason }
 
+  -- ---- what is moved stands at the places where it stood
+
+  thing_placed : (thing : Thing) → IsItemOf state.plan thing → placed_thing new_plan (moved state.plan sound.plan.distinct thing) ≡ placed_thing state.plan thing
+  thing_placed (InSlot slot) there =
+      ap (λ (n : ℕ). InSlot n) (places_agree new_plan new_places (moved state.plan sound.plan.distinct (InSlot slot)) (there_moved (InSlot slot) there) ∙ sym (position_is state.plan.requirements slot))
+  thing_placed (AtPlace d) there = refl
+
+  side_placed : (k : SideKey) → IsItemOf state.plan k.item → placed_side new_plan (move_side k) ≡ placed_side state.plan k
+  side_placed k there = let same = thing_placed k.item there in λ i. record { item = same i; side = k.side }
+
+  edge_placed : (e : EdgeKey) → IsEdgeOf state.plan e → placed_edge new_plan (move_edge e) ≡ placed_edge state.plan e
+  edge_placed (key.Loose k) there = ap (λ (k : SideKey). key.Loose k) (side_placed k there)
+  edge_placed (key.Steep k) there = ap (λ (k : SideKey). key.Steep k) (side_placed k there)
+  edge_placed (key.Firm k) there = ap (λ (k : SideKey). key.Firm k) (side_placed k there)
+  edge_placed (key.Order d) there = refl
+
+  units_placed : (edges : List (EdgeKey × ℕ)) → AllByRecursion (λ e. IsEdgeOf state.plan e.0) edges → map (placed_units new_plan) (map move_units edges) ≡ map (placed_units state.plan) edges
+  units_placed edges are =
+      map_same (λ (e : EdgeKey × ℕ). IsEdgeOf state.plan e.0) move_units (placed_units state.plan) (placed_units new_plan) (λ e there. let same = edge_placed e.0 there in λ i. (same i, e.1)) edges are
+
+  walk_placed : (edges : List EdgeKey) → AreEdges state.plan edges → map (placed_edge new_plan) (map move_edge edges) ≡ map (placed_edge state.plan) edges
+  walk_placed edges are = map_same (IsEdgeOf state.plan) move_edge (placed_edge state.plan) (placed_edge new_plan) edge_placed edges are
+
+  answer_placed : (answer : Option Proposal) → IfSome answer (FitsPlan (place_in state.plan) state.plan) → option_map (placed_proposal new_plan) (move_answer answer) ≡ option_map (placed_proposal state.plan) answer
+  answer_placed None fits = refl
+  answer_placed (Some p) fits =
+      let sides = map_same (λ (s : SideKey × ℕ). IsItemOf state.plan s.0.item) move_relaxed (placed_relaxed state.plan) (placed_relaxed new_plan)
+      (λ s there. let same = side_placed s.0 there in λ i. (same i, s.1)) p.loosening fits.sides.among in
+      λ i. Some (record { cost = p.cost; picks = p.picks; loosening = sides i; times = p.times })
+
+  shared_placed : (entry : Shared) → IsShared (place_in state.plan) state.plan entry → placed_shared new_plan (move_shared entry) ≡ placed_shared state.plan entry
+  shared_placed (shared.Flow edges) is = ap (λ (l : List (EdgeKey × ℕ)). shared.Flow l) (units_placed edges is.among)
+  shared_placed (shared.Stuck edges) is = ap (λ (l : List EdgeKey). shared.Stuck l) (walk_placed edges is)
+
+  reason_placed : (why : Reason) → IsReasonOf (place_in state.plan) state why → placed_reason new_plan (move_reason why) ≡ placed_reason state.plan why
+  reason_placed (reason.Denied veto) is = refl
+  reason_placed (reason.Flow edges) is = ap (λ (l : List (EdgeKey × ℕ)). reason.Flow l) (units_placed edges is.among)
+  reason_placed (reason.Stuck edges) is = ap (λ (l : List EdgeKey). reason.Stuck l) (walk_placed edges is)
+  reason_placed (reason.Entry entry) is = refl
+
+  state_placed : IsSameStateUpToSlots new_state state
+  state_placed = record {
+    events = refl;
+    uncertains = refl;
+    choices = refl;
+    requirements = same_but_slots 0 state.plan.requirements;
+    vetoes = remade_commands state.plan sound.plan state.vetoes sound.vetoes.there;
+  }
+
 -- the same document with counted slots
 abbrev renumbered : (d : Document) → IsDocument d → Document
 renumbered d is = record {
@@ -432,11 +482,12 @@ renumbered d is = record {
   leaves = map (move_leaf d.state is.state) d.leaves;
 }
 
--- a plain document with the lines of the document
+-- a plain document with the lines of the document, which is the same up to slots
 pub record HasPlain (d : Document) : Type 0 where
   pub plain : Document
   pub is_plain : IsPlain plain
   pub same_lines : lines_of plain ≡ lines_of d
+  pub same : IsSameUpToSlots plain d
 
 parts_moved : (d : Document) (is : IsDocument d) → HasFittingParts in_place (renumbered d is)
 parts_moved d is = record {
@@ -463,9 +514,21 @@ lines_moved d is =
     (λ leaf fits. ap (λ l. item.Leaf (picked_names d.state.plan.choices leaf.prefix) ∷ l) (reason_shown d.state is.state leaf.reason fits.reason)) d.leaves is.parts.leaves in
     λ i. ((((((item.Version d.version ∷ []) ++ map (λ c. item.Command c) (commands i)) ++ item.Answer ∷ []) ++ answer i) ++ entries i) ++ leaves i) ++ item.End ∷ []
 
+parts_placed : (d : Document) (is : IsDocument d) → IsSameUpToSlots (renumbered d is) d
+parts_placed d is = record {
+  version = refl;
+  state = state_placed d.state is.state;
+  answer = answer_placed d.state is.state d.answer is.parts.answer;
+  shared = map_same (λ entry. (d.version ≡ 2) × IsShared (place_in d.state.plan) d.state.plan entry) (move_shared d.state is.state) (placed_shared d.state.plan) (placed_shared (new_plan d.state is.state))
+      (λ entry fits. shared_placed d.state is.state entry fits.1) d.shared is.parts.shared;
+  leaves = map_same (IsLeaf (place_in d.state.plan) d.version d.state (length d.shared)) (move_leaf d.state is.state) (placed_leaf d.state.plan) (placed_leaf (new_plan d.state is.state))
+      (λ leaf fits. let same = reason_placed d.state is.state leaf.reason fits.reason in λ i. record { prefix = leaf.prefix; reason = same i }) d.leaves is.parts.leaves;
+}
+
 pub has_plain : (d : Document) → IsDocument d → HasPlain d
 has_plain d is = record {
   plain = renumbered d is;
   is_plain = record { state = new_state_sound d.state is.state; slots = new_places d.state is.state; parts = parts_moved d is };
   same_lines = ap (map spell) (lines_moved d is);
+  same = parts_placed d is;
 }

@@ -31,7 +31,7 @@ use Rattle.uhura_item.specs.declared.item.Item.TheVariants as item
 use Rattle.uhura_cert.specs.Document.{HasPlacesAsSlots}
 use Rattle.uhura_cert.specs.Machine.{script, Makes, Step, later}
 use Rattle.uhura_cert.specs.Run.{Run}
-use Rattle.uhura_cert.proofs.Laws.{run-append}
+use Rattle.uhura_cert.proofs.RunLaws.{run-append}
 use Rattle.uhura_cert.proofs.FirstParts.{lists, first_events, first_uncertains, first_choices, first_requirements, first_vetoes}
 use Rattle.uhura_cert.proofs.MachineRuns.{ScriptRuns}
 

@@ -7,3 +7,5 @@ pub mod Run
 pub mod Machine
 pub mod OneByOne
 pub mod Taking
+pub mod Reading
+pub mod ReadsBack

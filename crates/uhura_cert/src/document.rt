@@ -80,3 +80,14 @@ pub enum DocumentRefusal {
     Malformed { line: u32 },
     Memory(AllocError),
 }
+
+impl From<AllocError> for DocumentRefusal {
+    ghost use Rattle.std.specs.Prelude.{◌≡◌};
+    ghost use Rattle.uhura_cert.specs.declared.document.DocumentRefusal.TheVariants.{Memory};
+
+    ghost from_gives = { λ error refusal. refusal ≡ Memory error };
+
+    fn from(error: AllocError) -> DocumentRefusal {
+        DocumentRefusal::Memory(error)
+    }
+}

@@ -49,7 +49,7 @@ abs-itself (pos n) some = refl
 abs-itself (negsuc n) some = absurd (omega (arith, ints, some))
 
 -- there is something at each place below the length
-there-below : {X : Type 0} (xs : List X) (i : ℕ) → i < length xs → (x : X) × (slice_get xs i ≡ Some x)
+pub there-below : {X : Type 0} (xs : List X) (i : ℕ) → i < length xs → (x : X) × (slice_get xs i ≡ Some x)
 there-below [] i below = absurd (omega (arith, below))
 there-below (x ∷ xs) zero below = (x, refl)
 there-below (x ∷ xs) (suc i) below = there-below xs i (omega (arith, below))
@@ -74,7 +74,7 @@ module _ (state : State) (branch : List Pick) (pairs : List (SideKey × ℕ)) (t
           let active : IsTrue (is_active_item state.plan branch key.item) = has.active in
           absurd (let never : ⊥ = cc in never)
 
-  side-leaves : IsSound state.plan → All (HasRoom state (proposal_with branch pairs times)) pairs → (d : ℕ) (u : Uncertain) → slice_get state.plan.uncertains d ≡ Some u →
+  pub side-leaves : IsSound state.plan → All (HasRoom state (proposal_with branch pairs times)) pairs → (d : ℕ) (u : Uncertain) → slice_get state.plan.uncertains d ≡ Some u →
       least_left 1 (proposal_with branch pairs times) d u ≤ℤ greatest_left 1 (proposal_with branch pairs times) d u
   side-leaves sound rooms d u is = by (narrowed (proposal_with branch pairs times) Upper d) refl (units-from pairs (record { item = item.Uncertain d; side = Upper }))
     where

@@ -49,7 +49,7 @@ next-uncovered cs before next covers = record {
     by other is never (inr (inr later)) = inr later
 
 module _ (plan : Lists) (sound : IsSound plan) (answer : Answer) where
-  next-step : (before : List (List Pick)) (next : Option (List Pick)) (prefix : List Pick) → CoversUpTo plan.choices before next → ComesNext plan.choices answer before prefix →
+  pub next-step : (before : List (List Pick)) (next : Option (List Pick)) (prefix : List Pick) → CoversUpTo plan.choices before next → ComesNext plan.choices answer before prefix →
       (later : Option (List Pick)) → IsBehind plan.choices prefix later → CoversUpTo plan.choices (before ++ prefix ∷ []) later
   next-step before next prefix covers comes later behind =
       going-on plan.choices before comes.branch prefix later

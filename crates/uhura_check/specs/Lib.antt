@@ -1,6 +1,15 @@
 pub mod Confirmed
 pub mod Conditions
 pub mod Table
+pub mod Failure
 pub mod Examples
 pub mod Picks
 pub mod Firsts
+pub mod Edges
+pub mod Ledger
+pub mod Reaches
+pub mod SideCosts
+pub mod Extremes
+pub mod Walked
+pub mod Entries
+pub mod Right

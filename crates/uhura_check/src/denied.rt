@@ -7,7 +7,7 @@ use uhura_command::State;
 use uhura_veto::Veto;
 
 /// Whether the veto at a place is a denial whose literals are all picked in the prefix.
-pub fn is_denied_by(state: &State, prefix: &Prefix, veto: u32) -> bool
+pub(crate) fn is_denied_by(state: &State, prefix: &Prefix, veto: u32) -> bool
     ensures { result ≡ is_denied_by state.now prefix.now veto }
 {
     match state.vetoes.veto(veto) {

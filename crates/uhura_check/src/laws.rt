@@ -1,4 +1,5 @@
-//! What a confirmed document shows, and that it is one exactly where no condition fails. Each contract is a law over the definitions, and the bodies are empty.
+//! What a confirmed document shows, and that it is one exactly where no condition fails. Each contract is a law over
+//! the definitions, and the bodies are empty.
 ghost use Rattle.std.specs.Prelude.{◌≡◌, ◌↔◌, ℕ, None, Some};
 ghost use Rattle.uhura_worst.specs.Proposal.{Proposal};
 ghost use Rattle.uhura_worst.specs.Allowed.{Allowed};

@@ -13,7 +13,7 @@ use uhura_plan::{Choice, Literal, Plan};
 use uhura_veto::denied_by;
 
 /// The branch that the literals pick, where they pick one that isn't denied.
-pub fn picked_branch(state: &State, literals: &[Literal]) -> Option<Branch>
+pub(crate) fn picked_branch(state: &State, literals: &[Literal]) -> Option<Branch>
     ensures { MatchOption result
         (IsPicked state.now (picks_of literals.now (length state.now.plan.choices)) → ⊥)
         (IsPickedBy state.now literals.now) }

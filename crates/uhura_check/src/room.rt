@@ -4,12 +4,12 @@ ghost use Rattle.std.specs.Bool.{Decides};
 ghost use Rattle.uhura_choice.specs.declared.prefix.Pick.{Pick};
 ghost use Rattle.uhura_veto.specs.Room.{IsWithinRoom, width_of};
 ghost use Rattle.uhura_relax.specs.Schedule.{proposal_with};
-ghost use Rattle.uhura_worst.specs.Examples.{duration_side};
 ghost use Rattle.uhura_check.specs.Conditions.{LeavesSomeAt, HasRoom};
 ghost use Rattle.uhura_check.specs.Firsts.{IsFirstNot};
 ghost use Rattle.uhura_check.specs.Picks.{IsNarrowed};
 
 use crate::active::is_active_item;
+use crate::keys::duration_side;
 use uhura_choice::Branch;
 use uhura_command::State;
 use uhura_plan::{Item, Plan, Side, SideKey, Uncertain};
@@ -19,7 +19,7 @@ use uhura_worst::Loosening;
 
 /// Whether a side that is loosened or narrowed is one of an active item, has room for its units, and leaves some
 /// lengths.
-pub fn has_room(state: &State, branch: &Branch, loosening: &Loosening, side: (SideKey, u64)) -> bool
+fn has_room(state: &State, branch: &Branch, loosening: &Loosening, side: (SideKey, u64)) -> bool
     ensures { (times : ℕ → ℤ) → Decides result
         (HasRoom state.now (proposal_with branch.now loosening.now times) side) }
 {
@@ -29,7 +29,11 @@ pub fn has_room(state: &State, branch: &Branch, loosening: &Loosening, side: (Si
 }
 
 /// The place of the first side that has no room, where there is one.
-pub fn first_without_room(state: &State, branch: &Branch, loosening: &Loosening) -> Option<usize>
+pub(crate) fn first_without_room(
+    state: &State,
+    branch: &Branch,
+    loosening: &Loosening,
+) -> Option<usize>
     ensures { (times : ℕ → ℤ) → MatchOption result
         (All (HasRoom state.now (proposal_with branch.now loosening.now times)) loosening.now)
         (IsFirstNot (HasRoom state.now (proposal_with branch.now loosening.now times))
@@ -64,8 +68,8 @@ fn leaves_some_at(plan: &Plan, loosening: &Loosening, key: SideKey) -> bool
     match (key.side, key.item) {
         (Side::Upper, Item::Uncertain(duration)) => match plan.uncertain(duration) {
             Some(uncertain) => {
-                let low = side_of(duration, Side::Lower);
-                let high = side_of(duration, Side::Upper);
+                let low = duration_side(duration, Side::Lower);
+                let high = duration_side(duration, Side::Upper);
                 leaves_some(uncertain, loosening.units(low), loosening.units(high))
             }
             None => true,
@@ -88,14 +92,4 @@ fn width(uncertain: &Uncertain) -> u64
     ensures { result ≡ width_of uncertain.now }
 {
     uncertain.upper.abs_diff(uncertain.lower)
-}
-
-/// The side of the duration in a place.
-fn side_of(duration: u32, side: Side) -> SideKey
-    ensures { result ≡ duration_side duration side }
-{
-    SideKey {
-        item: Item::Uncertain(duration),
-        side,
-    }
 }

@@ -7,5 +7,5 @@ pub returns-in-Some : goal.returns-in-Some
 returns-in-Some c = λ branch times.
     leaves-decided c.args.plan.now c.uncertains.ensures.sound c.args.loosening.now branch times c.in-Upper-Uncertain.duration c.args.key.side c.args.key.item c.in-Some.uncertain.now
     c.leaves_some.result c.units.result c.units-in-Some.result c.in-Upper-Uncertain.is-0 c.in-Upper-Uncertain.is-1 (sym c.in-Some.ensures)
-    (c.units.ensures.units ∙ ap (side_units c.args.loosening.now) c.side_of-low.ensures)
-    (c.units-in-Some.ensures.units ∙ ap (side_units c.args.loosening.now) c.side_of-high.ensures) c.leaves_some.ensures
+    (c.units.ensures.units ∙ ap (side_units c.args.loosening.now) c.duration_side-low.ensures)
+    (c.units-in-Some.ensures.units ∙ ap (side_units c.args.loosening.now) c.duration_side-high.ensures) c.leaves_some.ensures
