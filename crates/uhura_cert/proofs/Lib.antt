@@ -1,7 +1,3 @@
-pub mod Walk
-pub mod PickLines
-pub mod Unloosened
-pub mod UnloosenedText
 pub mod RunLaws
 pub mod ItemsFit
 pub mod Writing

@@ -1,4 +1,3 @@
-pub mod ProposalText
 pub mod Order
 pub mod Document
 pub mod Items

@@ -20,7 +20,6 @@ mod order;
 mod place;
 mod prefix;
 mod progress;
-mod proposal;
 mod read;
 mod reader;
 mod script_line;
@@ -29,6 +28,5 @@ mod write;
 
 pub use document::{Document, DocumentRefusal, Leaf, Proposal, Reason, Shared};
 pub use listed::Listed;
-pub use proposal::put_proposal;
 pub use read::read_document;
 pub use write::{write_document, write_proposal};
