@@ -95,8 +95,8 @@ pub fn leaf_covers_the_branches_of_its_prefix()
     ensures proper { Shows cheap_or_dear (Some (dear_x, 4)) (cheap_leaf ∷ flow right [] ∷ []) → ⊥ }
 {}
 
-/// The answer to the first question of an evening with three choices is allowed, and shown by leaves of which some end
-/// before the last choice. So it is the cheapest, and the first of those that cost as much.
+/// The answer to the first question of an evening with three choices is allowed, and shown by leaves of which some
+/// end before the last choice. So it is the cheapest, and the first of those that cost as much.
 pub fn evening_has_its_first_answer()
     ensures allowed { Allowed evening 1 first_answer }
     ensures cost { cost evening.plan 1 first_answer ≡ 10 }
