@@ -1,6 +1,6 @@
 -- The plan of an evening is sound.
-use Rattle.std.proofs.Common.{rules, ◌≡◌, ℕ, zero, suc, ◌≢◌, List, Some, take, false, true≢false, refl, sym, subst, lit≤, ◌∙◌, arith}
-use Rattle.std.specs.Prelude.{slice_get, All, AllPairs, Contains, bytes_eq}
+use Rattle.std.proofs.Common.{rules, ◌≡◌, ℕ, zero, suc, List, Some, take, false, true≢false, refl, sym, subst, ◌∙◌}
+use Rattle.std.specs.Prelude.{slice_get, All, Contains, bytes_eq}
 use Rattle.std.specs.List.{IsDistinct, list_any}
 use Rattle.std.specs.Cmp.Lexicographic.{nat_list_eq_equiv}
 use Rattle.std.proofs.lemmas.Option.{none-some, same_Some}

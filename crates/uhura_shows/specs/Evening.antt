@@ -229,3 +229,9 @@ answer branch pairs times = record {
 abbrev pub first_answer : Proposal
 first_answer =
     answer (three 1 0 0) [] (0 ∷ 20 ∷ 20 ∷ 50 ∷ 95 ∷ 120 ∷ 150 ∷ 260 ∷ 310 ∷ [])
+
+-- and that to the second: they are home 10 minutes late
+abbrev pub second_answer : Proposal
+second_answer =
+    answer (three 0 1 0) ((requirement_side 14 Upper, 10) ∷ [])
+    (0 ∷ 20 ∷ 20 ∷ 60 ∷ 120 ∷ 155 ∷ 180 ∷ 290 ∷ 340 ∷ [])

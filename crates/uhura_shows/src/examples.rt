@@ -11,7 +11,7 @@ ghost use Rattle.uhura_worst.specs.Examples.{two_sides, by_left, capped_drive, r
 ghost use Rattle.uhura_shows.specs.Shows.{Answer, Shows};
 ghost use Rattle.uhura_shows.specs.Examples.{denied, flow, stuck, left, right, clash_by, both_sides};
 ghost use Rattle.uhura_shows.specs.Examples.{drive_leaf, rising_leaf, both_denied, clashing};
-ghost use Rattle.uhura_shows.specs.Evening.{evening, without_thai, three, first_answer, first_leaves, second_leaves};
+ghost use Rattle.uhura_shows.specs.Evening.{evening, without_thai, first_answer, second_answer, first_leaves, second_leaves};
 ghost use Rattle.uhura_shows.specs.Examples.{cheap_or_dear, dear_x, dear_y, cheap_leaf, right_in_halves};
 
 /// The leaves of two sides that both cost 5 show that the left one does, and no more than that. They don't show the
@@ -95,17 +95,25 @@ pub fn leaf_covers_the_branches_of_its_prefix()
     ensures proper { Shows cheap_or_dear (Some (dear_x, 4)) (cheap_leaf ∷ flow right [] ∷ []) → ⊥ }
 {}
 
-/// The answers to the first two questions of an evening with three choices, each shown by leaves of which some end
-/// before the last choice. The second is the answer only where the second restaurant is denied.
-pub fn evening_has_its_first_answers()
+/// The answer to the first question of an evening with three choices is allowed, and shown by leaves of which some
+/// end before the last choice. So it is the cheapest, and the first of those that cost as much.
+pub fn evening_has_its_first_answer()
     ensures allowed { Allowed evening 1 first_answer }
     ensures cost { cost evening.plan 1 first_answer ≡ 10 }
-    ensures first { Shows evening (Some (first_answer.branch, 10)) first_leaves }
-    ensures no_more { Shows evening (Some (three 1 0 0, 11)) first_leaves → ⊥ }
+    ensures shown { Shows evening (Some (first_answer.branch, 10)) first_leaves }
     ensures cheapest { IsCheapest evening first_answer }
-    ensures earliest_branch { IsFirst evening first_answer }
-    ensures second { Shows without_thai (Some (three 0 1 0, 35)) second_leaves }
-    ensures not_denied { Shows evening (Some (three 0 1 0, 35)) second_leaves → ⊥ }
+    ensures first { IsFirst evening first_answer }
+    ensures no_more { Shows evening (Some (first_answer.branch, 11)) first_leaves → ⊥ }
+{}
+
+/// Where the second restaurant is denied, the evening has another answer; its leaves show nothing where it isn't.
+pub fn evening_has_its_second_answer()
+    ensures allowed { Allowed without_thai 1 second_answer }
+    ensures cost { cost without_thai.plan 1 second_answer ≡ 35 }
+    ensures shown { Shows without_thai (Some (second_answer.branch, 35)) second_leaves }
+    ensures cheapest { IsCheapest without_thai second_answer }
+    ensures first { IsFirst without_thai second_answer }
+    ensures not_denied { Shows evening (Some (second_answer.branch, 35)) second_leaves → ⊥ }
 {}
 
 /// In halves the right side costs twice as much as the left one does in whole units: no less, and it is later. So the
