@@ -15,7 +15,7 @@ use Rattle.uhura_cert.specs.Text.{IsRead, Reads}
 use Rattle.uhura_check.specs.declared.refusal.Code.{Code}
 use Rattle.uhura_check.specs.declared.refusal.CheckRefusal.TheVariants.{NotConfirmed}
 use Rattle.uhura_check.specs.Confirmed.{Confirmed, answer_of}
-use Rattle.uhura_check.specs.Table.{Asked, IsKept, asks_of, Checks}
+use Rattle.uhura_check.specs.Table.{IsKept, asks_of, Checks}
 use Rattle.uhura_check.proofs.Confirming.{confirmed-none_fails}
 use Rattle.uhura_proof.specs.Proof.{IsProof}
 use Rattle.uhura_proof.proofs.SlotsConfirm.{proofs_confirmed}

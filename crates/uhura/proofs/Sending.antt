@@ -5,7 +5,7 @@ use Rattle.std.specs.Io.KnownBytes.{Appends}
 use Rattle.uhura_text.specs.Lines.{lines, whole}
 use Rattle.uhura.specs.Run.{AnswersFirst, IsFrontOfAnswers}
 use Rattle.uhura.specs.Told.{Told, Tells}
-use Rattle.uhura.specs.Script.{Point, Stands, IsTold, GoesOn, FeedsBytes, Concludes, FeedsEnd, IsSent, Advances, AnswersBytes, Completes, AnswersEnd}
+use Rattle.uhura.specs.Script.{Point, IsTold, GoesOn, FeedsBytes, Concludes, FeedsEnd, IsSent, Advances, AnswersBytes, Completes, AnswersEnd}
 use Rattle.uhura.specs.declared.script.Stop.{Stop}
 use Rattle.uhura.specs.declared.script.Stop.TheVariants.{WriteFault, NoMemory}
 use Rattle.uhura.proofs.Telling.{told_written, told_front, failed_front}

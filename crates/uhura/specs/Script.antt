@@ -1,6 +1,6 @@
 -- What the steps of a run leave: one line, some bytes, the end of the input. Answers wait while bytes are fed that one
 -- read gave, and then they are written at once.
-use Rattle.std.specs.Prelude.{◌≡◌, ℕ, ◌+◌, ◌⊎◌, Bool, true, false, ◌||◌, List, [], ◌++◌, take, Option, Result, Ok, Err}
+use Rattle.std.specs.Prelude.{◌≡◌, ℕ, ◌+◌, ◌⊎◌, Bool, true, false, ◌||◌, List, ◌++◌, take, Option, Result, Ok, Err}
 use Rattle.std.specs.Io.KnownBytes.{Appends}
 use Rattle.uhura_io.specs.Streams.{AppendsFront, HasRisen}
 use Rattle.uhura_text.specs.Lines.{lines, whole, behind}

@@ -1,5 +1,5 @@
 -- What is said of a document, and when.
-use Rattle.std.specs.Prelude.{◌≡◌, ◌≢◌, ℕ, pos, List, [], ◌∷◌, codes, Option, Err}
+use Rattle.std.specs.Prelude.{◌≢◌, ℕ, pos, List, [], ◌∷◌, codes, Option, Err}
 use Rattle.std.specs.Io.KnownBytes.{Appends}
 use Rattle.uhura_io.specs.Streams.{AppendsFront}
 use Rattle.uhura_text.specs.Number.{spelling}

@@ -11,9 +11,9 @@ mod run;
 mod script;
 mod status;
 mod task;
-mod verdict;
 #[cfg(test)]
 mod tests;
+mod verdict;
 
 use arguments::arguments;
 use run::run;

@@ -99,11 +99,7 @@ fn prove_anew(alloc: Global, state: &State) -> Result<Vec<u8>, AllocError>
 }
 
 /// The same, by a searcher that stands for the state.
-fn prove_by(
-    alloc: Global,
-    state: &State,
-    searcher: &mut Searcher,
-) -> Result<Vec<u8>, AllocError>
+fn prove_by(alloc: Global, state: &State, searcher: &mut Searcher) -> Result<Vec<u8>, AllocError>
     requires { StandsFor searcher.old state.now }
     ensures { IfOk result (λ text. IsProved state.now text.items) }
 {

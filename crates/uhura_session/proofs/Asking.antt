@@ -1,9 +1,8 @@
 -- A question asks the searcher once.
-use Rattle.std.proofs.Common.{◌≡◌, Result, Ok, Err, inr, ap, subst}
+use Rattle.std.proofs.Common.{◌≡◌, Result, Ok, Err, inr, subst}
 use Rattle.std.specs.Prelude.{OnErr}
 use Rattle.std.specs.declared.alloc.AllocError.{AllocError}
 use Rattle.uhura_plan.specs.Lists.{Lists}
-use Rattle.uhura_veto.specs.State.{State}
 use Rattle.uhura_line.specs.declared.command.Command.TheVariants as command
 use Rattle.uhura_search.specs.declared.outcome.Outcome.{Outcome}
 use Rattle.uhura_search.specs.Searcher.{Searched, IsAskedOnce}

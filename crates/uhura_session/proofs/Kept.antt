@@ -1,5 +1,5 @@
 -- An answer stands until an edit is accepted.
-use Rattle.std.proofs.Common.{◌≡◌, ℕ, Bool, true, false, true≢false, List, Option, None, Some, Result, Ok, Err, inl, inr, refl, sym, ap, subst, ◌∙◌}
+use Rattle.std.proofs.Common.{◌≡◌, ℕ, Bool, true, false, true≢false, List, Option, None, Some, Result, Ok, Err, inl, inr, refl, sym, ap, ◌∙◌}
 use Rattle.std.specs.Prelude.{◌⊎◌, MatchBool, IsTrue, IsFalse}
 use Rattle.uhura_plan.specs.Lists.{Lists}
 use Rattle.uhura_veto.specs.State.{State}
@@ -8,9 +8,8 @@ use Rattle.uhura_line.specs.declared.command.Command.TheVariants as command
 use Rattle.uhura_line.specs.declared.refusal.LineRefusal.{LineRefusal}
 use Rattle.uhura_command.specs.declared.state.refusal.StateRefusal.{StateRefusal}
 use Rattle.uhura_command.specs.Apply.{refusal_of}
-use Rattle.uhura_search.specs.declared.outcome.Outcome.{Outcome}
 use Rattle.uhura_search.specs.Revised.{IsRevised, HasRevised}
-use Rattle.uhura_search.specs.Searcher.{Searched, IsSearcher, Asks, AsksAgain, IsAskedOnce}
+use Rattle.uhura_search.specs.Searcher.{Searched, IsSearcher, Asks, AsksAgain}
 use Rattle.uhura_session.specs.Searching.{IsAnswered, SearchesEdit, SearchesCommand, SearchesParsed, Searches}
 
 module _ (old new : Searched) where
