@@ -65,8 +65,28 @@ def generated(number, events):
     return Plan(tuple(f"e{i}" for i in range(events)), tuple(durations), tuple(choices), (*requirements, last))
 
 
-def choices_with_requirements(number, count, alternatives):
-    """Choices, each alternative with a guarded requirement on a chain of events that has a deadline."""
+def choices_with_requirements(number, count, alternatives, length=24):
+    """A chain of events with a deadline, and choices, each alternative with a guarded requirement somewhere on it."""
+    d = Draws(number)
+    events = tuple(f"e{i}" for i in range(length))
+    choices = tuple(Choice(f"c{i}", {f"a{k}": d.draw(30) for k in range(alternatives)}) for i in range(count))
+
+    def lower(first, width):
+        return first + d.draw(width), None, {"lower": Price(1 + d.draw(9))}
+
+    requirements = [Requirement(f"r{i}", f"e{i}", f"e{i + 1}", *lower(1, 10)) for i in range(length - 1)]
+    for i in range(count):
+        for k in range(alternatives):
+            start = d.draw(length - 4)
+            end = start + 1 + d.draw(3)
+            guard = ((f"c{i}", f"a{k}"),)
+            requirements.append(Requirement(f"g{i}_{k}", f"e{start}", f"e{end}", *lower(5, 25), guard))
+    deadline = Requirement("all", "e0", f"e{length - 1}", None, 6 * length, {"upper": Price(1 + d.draw(20))})
+    return Plan(events, (), choices, (*requirements, deadline))
+
+
+def each_branch_its_own(number, count, alternatives):
+    """Choices that each lengthen a link of their own: every branch lacks another time, and little is learned for two."""
     d = Draws(number)
     events = tuple(f"e{i}" for i in range(count + 1))
     choices = tuple(Choice(f"c{i}", {f"a{k}": d.draw(30) for k in range(alternatives)}) for i in range(count))
@@ -178,6 +198,8 @@ def all_families():
         yield once("generated", f"generated 1 of {events}", generated(1, events))
     for count, alternatives in ((8, 2), (10, 3), (16, 2), (8, 4)):
         yield once("many choices", f"{count} of {alternatives}", choices_with_requirements(1, count, alternatives))
+    for count, alternatives in ((8, 2), (8, 3)):
+        yield once("each its own", f"{count} of {alternatives}", each_branch_its_own(1, count, alternatives))
     for links, count in ((30, 8), (60, 12)):
         yield once("chains", f"{links} links, {count} choices", chain_to_a_deadline(1, links, count))
     yield once("ties", "12 choices", ties(12))

@@ -3,9 +3,14 @@ use crate::run::run;
 use std::alloc::{AllocError, Global};
 use uhura_io::{MemorySink, MemorySource, SteadySink, SteadySource};
 
-const EVENT_AND_QUESTION: &[u8] = b"event a\npropose\n";
+const EVENT_AND_QUESTIONS: &[u8] = b"event a\npropose\nprove\n";
 
-const TRANSCRIPT: &[u8] = b"ok\nproposal 0\nat a 0\nend\n";
+const PROPOSED: &[u8] = b"ok\nproposal 0\nat a 0\nend\n";
+
+const TRANSCRIPT: &[u8] = b"ok\nproposal 0\nat a 0\nend\n\
+document 2\nevent a\nanswer\nproposal 0\nat a 0\nend\nshared flow\nleaf\nuse 0\nend\n";
+
+const DOCUMENT: &[u8] = b"document 1\nevent a\nanswer\nproposal 0\nat a 0\nend\nleaf\nflow\nend\n";
 
 /// Runs a script in pieces of `piece` bytes, with one failing read and one failing write (0 for none), and
 /// says with which status the run ended and whether `written` was written.
@@ -17,28 +22,52 @@ fn ends(
     write: u64,
     written: &[u8],
 ) -> Result<(u8, bool), AllocError> {
+    ends_by(alloc, &[], script, piece, read, write, written)
+}
+
+/// The same of a run with these words.
+fn ends_by(
+    alloc: Global,
+    words: &[&str],
+    script: &[u8],
+    piece: usize,
+    read: u64,
+    write: u64,
+    written: &[u8],
+) -> Result<(u8, bool), AllocError> {
+    let words = word_list(alloc, words)?;
     let mut source = MemorySource::new(alloc, script, piece.max(1), &[read])?;
-    let mut sink = MemorySink::new(alloc, 64, piece.max(1), &[write])?;
-    let status = run(alloc, &Vec::new(alloc), &mut source, &mut sink);
+    let mut sink = MemorySink::new(alloc, 128, piece.max(1), &[write])?;
+    let status = run(alloc, &words, &mut source, &mut sink);
     Ok((status as u8, sink.bytes() == written))
 }
 
-/// The status of a run with these words over steady streams.
-fn status(alloc: Global, words: &[&str], script: &[u8]) -> Result<u8, AllocError> {
+/// These words.
+fn word_list(alloc: Global, words: &[&str]) -> Result<Vec<String>, AllocError> {
     let mut list = Vec::new(alloc);
     for word in words {
         list.push(String::from_str(alloc, word)?)?;
     }
+    Ok(list)
+}
+
+/// The status of a run with these words over steady streams.
+fn status(alloc: Global, words: &[&str], script: &[u8]) -> Result<u8, AllocError> {
+    let words = word_list(alloc, words)?;
     let mut source = SteadySource::new(alloc, script)?;
-    let status = run(alloc, &list, &mut source, &mut SteadySink::new());
+    let status = run(alloc, &words, &mut source, &mut SteadySink::new());
     Ok(status as u8)
 }
 
 #[test]
-fn the_words_are_none_or_run(rt: HostRuntime) -> Result<(), AllocError> {
+fn the_words_are_those_listed(rt: HostRuntime) -> Result<(), AllocError> {
     let alloc = rt.alloc();
     assert_eq!(rt; status(alloc, &[], b"")?, 0);
-    assert_eq!(rt; status(alloc, &["run"], EVENT_AND_QUESTION)?, 0);
+    assert_eq!(rt; status(alloc, &["run"], EVENT_AND_QUESTIONS)?, 0);
+    assert_eq!(rt; status(alloc, &["check"], DOCUMENT)?, 0);
+    assert_eq!(rt; status(alloc, &["check"], b"")?, 1);
+    assert_eq!(rt; status(alloc, &["measure", "1"], b"")?, 0);
+    assert_eq!(rt; status(alloc, &["measure", "0"], b"")?, 2);
     assert_eq!(rt; status(alloc, &["run"], b"event a\njump")?, 1);
     assert_eq!(rt; status(alloc, &["ran"], b"")?, 2);
     assert_eq!(rt; status(alloc, &["run", "run"], b"")?, 2);
@@ -66,14 +95,15 @@ fn the_first_fault_ends_the_run(rt: HostRuntime) -> Result<(), AllocError> {
 
 #[test]
 fn each_read_fails_in_turn(rt: HostRuntime) -> Result<(), AllocError> {
-    for read in 1..20 {
+    for read in 1..26 {
         let (status, written) = match read {
             1..=8 => (4, b"".as_slice()),
             9..=16 => (4, b"ok\n".as_slice()),
-            17 => (4, TRANSCRIPT),
+            17..=22 => (4, PROPOSED),
+            23 => (4, TRANSCRIPT),
             _ => (0, TRANSCRIPT),
         };
-        let got = ends(rt.alloc(), EVENT_AND_QUESTION, 1, read, 0, written)?;
+        let got = ends(rt.alloc(), EVENT_AND_QUESTIONS, 1, read, 0, written)?;
         assert_eq!(rt; got, (status, true), "at read {read}");
     }
     Ok(())
@@ -85,7 +115,7 @@ fn each_write_fails_in_turn(rt: HostRuntime) -> Result<(), AllocError> {
         let write = k as u64 + 1;
         let got = ends(
             rt.alloc(),
-            EVENT_AND_QUESTION,
+            EVENT_AND_QUESTIONS,
             1,
             0,
             write,
@@ -93,7 +123,19 @@ fn each_write_fails_in_turn(rt: HostRuntime) -> Result<(), AllocError> {
         )?;
         assert_eq!(rt; got, (5, true), "at write {write}");
     }
-    let got = ends(rt.alloc(), EVENT_AND_QUESTION, 1, 0, 26, TRANSCRIPT)?;
+    let got = ends(rt.alloc(), EVENT_AND_QUESTIONS, 1, 0, 101, TRANSCRIPT)?;
     assert_eq!(rt; got, (0, true));
+    Ok(())
+}
+
+#[test]
+fn each_read_of_a_document_fails_in_turn(rt: HostRuntime) -> Result<(), AllocError> {
+    for (k, _) in DOCUMENT.iter().enumerate() {
+        let read = k as u64 + 1;
+        let got = ends_by(rt.alloc(), &["check"], DOCUMENT, 1, read, 0, b"")?;
+        assert_eq!(rt; got, (4, true), "at read {read}");
+    }
+    let got = ends_by(rt.alloc(), &["check"], DOCUMENT, 1, 0, 4, b"con")?;
+    assert_eq!(rt; got, (5, true));
     Ok(())
 }

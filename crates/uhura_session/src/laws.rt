@@ -1,14 +1,19 @@
 //! The laws of answers: what `show` answers is a script of the same state, an error is told by its text, the slots of
-//! requirements change no answer, and an answer stands until an edit is accepted.
+//! requirements change no answer, an answer stands until an edit is accepted, and the answer to `prove` may be checked.
 ghost use Rattle.std.specs.Prelude.{◌≡◌, ◌⊎◌, ℕ, List, IsTrue, IsFalse};
 ghost use Rattle.uhura_plan.specs.Lists.{Lists};
 ghost use Rattle.uhura_veto.specs.State.{State};
 ghost use Rattle.uhura_worst.specs.Slots.{IsSameButForSlots};
 ghost use Rattle.uhura_command.specs.Replay.{IsSameUpToSlots};
 ghost use Rattle.uhura_command.specs.State.{IsSoundState};
+ghost use Rattle.uhura_text.specs.Lines.{lines};
+ghost use Rattle.uhura_cert.specs.Document.{Document};
+ghost use Rattle.uhura_cert.specs.Text.{IsRead};
+ghost use Rattle.uhura_check.specs.Confirmed.{Confirmed};
+ghost use Rattle.uhura_check.specs.Right.{IsRight};
 ghost use Rattle.uhura_search.specs.Revised.{IsRevised};
 ghost use Rattle.uhura_search.specs.Searcher.{Searched, IsSearcher};
-ghost use Rattle.uhura_session.specs.Answers.{shown_text};
+ghost use Rattle.uhura_session.specs.Answers.{IsProved, shown_text};
 ghost use Rattle.uhura_session.specs.ReadsBack.{ShowsReadBack};
 ghost use Rattle.uhura_session.specs.Refused.{RefusalsAreErrors};
 ghost use Rattle.uhura_session.specs.Searching.{IsAnswered, Searches};
@@ -41,4 +46,17 @@ pub fn answers_stand_until_an_edit()
         Searches state line old new → (new ≡ old) ⊎ IsRevised old new }
     ensures edited { (old new : Searched) → IsSearcher old → IsRevised old new →
         IsFalse new.stands }
+{}
+
+/// Whoever has the answer to `prove` read and checked, by this program or by another that keeps the definitions, may
+/// rely on the yes: it speaks of the state that was asked, up to the slots of requirements, and its answer is right.
+/// Nothing that is allowed, whole or in k-ths, costs less than its proposal, and nothing that costs the same has an
+/// earlier branch; or it has none, and nothing is allowed.
+pub fn checked_proofs_are_right()
+    ensures asked { (state : State) (text : List ℕ) (d : Document) → IsProved state text →
+        IsRead (lines text) d → IsSameUpToSlots d.state state }
+    ensures right { (d : Document) (text : List ℕ) → IsRead (lines text) d → Confirmed d →
+        IsRight d.state d.answer }
+    ensures confirmed { (state : State) (text : List ℕ) (d : Document) → IsProved state text →
+        IsRead (lines text) d → Confirmed d }
 {}
