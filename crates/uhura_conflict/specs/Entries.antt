@@ -1,7 +1,8 @@
 -- What the tables of a store show.
 use Rattle.std.specs.Option.{option_map_or}
-use Rattle.std.specs.Prelude.{◌≡◌, ℕ, pos, int_lt, IsFalse, IfSome, All, List, map, sum, length, Option, option_map, option_and_then, Bool, false, ◌||◌, is_some, if◌then◌else◌}
+use Rattle.std.specs.Prelude.{◌≡◌, ℕ, ◌<◌, ℤ, pos, int_lt, IsFalse, IfSome, All, List, map, sum, length, Option, option_map, option_and_then, Bool, false, ◌||◌, is_some, if◌then◌else◌}
 use Rattle.slab.specs.Slab.{Slab, get}
+use Rattle.uhura_choice.specs.declared.prefix.Pick.{Pick}
 use Rattle.uhura_net.specs.declared.edge.Edge.{Edge}
 use Rattle.uhura_net.specs.Circulation.{edges_of}
 use Rattle.uhura_conflict.specs.declared.bound.Bound.{Bound}
@@ -9,7 +10,7 @@ use Rattle.uhura_conflict.specs.declared.bound.Bound.TheVariants.{Nothing, Flow,
 use Rattle.uhura_conflict.specs.declared.entry.Entry.{Entry}
 use Rattle.uhura_conflict.specs.Learned.{Learned, IsLearned, IsValid, flow_value}
 use Rattle.uhura_conflict.specs.Marked.{IsUnmarked}
-use Rattle.uhura_conflict.specs.Store.{Stored, IsStore, if_it_outlasts}
+use Rattle.uhura_conflict.specs.Store.{Stored, IsStore, Applying, AppliesAt, value_at, IsBestAmong, if_it_outlasts}
 
 -- the conflict of an entry
 abbrev pub conflict_of : Option Entry → Option Learned
@@ -39,15 +40,29 @@ pub record IsHeldStore (entries : Slab Entry) (order : List ℕ) (table : List (
   pub sound : IsStore (shown_as entries order table)
   pub worth : AreWorth entries table
 
--- an entry would change what is known, if it applies
+-- a firm cycle, or else a flow of this value, would change what is known, if it applies
+abbrev pub exceeds_by : Bound → Bool → ℤ → Bool
+exceeds_by (Stuck first) stuck value = false
+exceeds_by (Flow most first) stuck value = stuck || int_lt most value
+exceeds_by Nothing stuck value = stuck || int_lt (pos 0) value
+
+-- and so would an entry
 abbrev pub exceeds : Bound → Entry → Bool
-exceeds (Stuck first) entry = false
-exceeds (Flow most first) entry = entry.conflict.stuck || int_lt most entry.value
-exceeds Nothing entry = entry.conflict.stuck || int_lt (pos 0) entry.value
+exceeds best entry = exceeds_by best entry.conflict.stuck entry.value
 
 -- what an entry tells
 abbrev pub bound_of : Entry → ℕ → Bound
 bound_of entry key = if entry.conflict.stuck then Stuck key else Flow entry.value key
+
+-- those under the keys below one
+abbrev pub Below : ℕ → Applying → Applying
+Below n at = λ (key : ℕ) (conflict : Learned). (key < n) × at key conflict
+
+-- the best that the entries under the keys below one tell of the branches with these picks
+abbrev pub IsBestBelow : ℕ → Slab Entry → List Pick → Bound → Type 0
+IsBestBelow n entries picks best = (order : List ℕ) (table : List (Option Edge)) → AreWorth entries table →
+    IsBestAmong (Below n (AppliesAt (shown_as entries order table) picks))
+        (value_at (shown_as entries order table)) best
 
 -- the entry under a key is kept where it outlasts the change of tables, and is worth what it is worth at the new one
 pub record RevisesAt (old new : Slab Entry) (from to : List (Option Edge)) (key : ℕ)

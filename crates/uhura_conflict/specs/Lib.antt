@@ -7,3 +7,4 @@ pub mod Worth
 pub mod Kept
 pub mod Store
 pub mod Entries
+pub mod Summaries

@@ -123,6 +123,13 @@ impl Conflict {
     {
         applies(&self.literals, picks)
     }
+
+    /// At the place of each choice the alternative that it asks for.
+    pub(crate) fn literals(&self) -> &[Option<u8>; CHOICES as usize]
+        ensures { result.now ≡ self.now.literals }
+    {
+        &self.literals
+    }
 }
 
 /// The places of a walk, in its order, with 1 unit each.

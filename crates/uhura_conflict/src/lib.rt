@@ -5,6 +5,7 @@
 //! says when a conflict applies, and for which edges it is valid.
 #![tactic(auto)]
 
+mod blocks;
 mod bound;
 mod comparing;
 mod conflict;
@@ -14,6 +15,8 @@ mod literals;
 mod looking;
 mod revising;
 mod store;
+mod summaries;
+mod summary;
 mod trimming;
 mod used;
 mod worth;

@@ -1,40 +1,74 @@
 //! The best of the conflicts that apply.
-ghost use Rattle.std.specs.Prelude.{◌≡◌, ◌<◌, ℕ, List, Option, IfSome, IsTrue, if◌then◌else◌};
-ghost use Rattle.slab.specs.Slab.{get};
+ghost use Rattle.std.specs.Prelude.{◌≡◌, ◌+◌, ◌*◌, ◌<◌, ◌^◌, ℕ, List, Option};
 ghost use Rattle.uhura_net.specs.declared.edge.Edge.{Edge};
 ghost use Rattle.uhura_conflict.specs.Store.{IsBest};
-ghost use Rattle.uhura_conflict.specs.Entries.{shown_as, AreWorth, bound_of, exceeds};
+ghost use Rattle.uhura_conflict.specs.Entries.{shown_as, AreWorth, bound_of, IsBestBelow};
+ghost use Rattle.uhura_conflict.specs.Summaries.{AreCovered, AreSummed};
 
 use crate::Bound;
-use crate::entry::Entry;
+use crate::blocks::may_matter_in;
+use crate::entry::{Entry, exceeds};
+use crate::summaries::{BLOCK, BLOCKS, GROUP, Summaries};
+use crate::summary::Summary;
 use slab::Slab;
 use uhura_choice::Pick;
 
-/// The best that these entries tell of the branches with these picks, in one pass over their keys.
-pub(crate) fn best_in(entries: &Slab<Entry>, picks: &[Pick]) -> Bound
+/// The best that these entries tell of the branches with these picks: it looks only into groups and blocks of keys of
+/// which an entry may matter.
+pub(crate) fn best_in(entries: &Slab<Entry>, summaries: &Summaries, picks: &[Pick]) -> Bound
+    requires { AreSummed summaries.now entries.now }
     ensures { (order : List ℕ) (table : List (Option Edge)) → AreWorth entries.now table →
         IsBest (shown_as entries.now order table) picks.now result }
 {
     let mut best = Bound::Nothing;
-    for key in 0..entries.capacity() {
-        if let Some(entry) = entries.get(key) {
-            if exceeds(best, entry) && entry.conflict.applies(picks) {
-                best = bound_of(entry, key);
-            }
+    for group in 0..entries.capacity() / GROUP + 1 {
+        if may_matter_in(&summaries.groups, group, best, picks) {
+            best = best_in_group(entries, &summaries.blocks, group, best, picks);
         }
     }
     best
 }
 
-/// Whether an entry would change what is known, if it applies: it is quicker to tell than whether it does.
-fn exceeds(best: Bound, entry: &Entry) -> bool
-    ensures { result ≡ exceeds best entry.now }
+/// The best of what is known and the entries of a group tell.
+fn best_in_group(
+    entries: &Slab<Entry>,
+    blocks: &[Option<Summary>],
+    group: usize,
+    known: Bound,
+    picks: &[Pick],
+) -> Bound
+    requires group { group < 2 ^ 54 }
+    requires covered { AreCovered BLOCK blocks.now entries.now }
+    requires known { IsBestBelow (group * GROUP) entries.now picks.now known }
+    ensures { IsBestBelow (group * GROUP + GROUP) entries.now picks.now result }
 {
-    match best {
-        Bound::Stuck { .. } => false,
-        Bound::Flow { value: most, .. } => entry.conflict.is_stuck() || most < entry.value,
-        Bound::Nothing => entry.conflict.is_stuck() || 0 < entry.value,
+    let mut best = known;
+    for place in 0..BLOCKS {
+        let block = group * BLOCKS + place;
+        if may_matter_in(blocks, block, best, picks) {
+            best = best_in_block(entries, block, best, picks);
+        }
     }
+    best
+}
+
+/// The best of what is known and the entries of a block tell.
+fn best_in_block(entries: &Slab<Entry>, block: usize, known: Bound, picks: &[Pick]) -> Bound
+    requires block { block < 2 ^ 59 }
+    requires known { IsBestBelow (block * BLOCK) entries.now picks.now known }
+    ensures { IsBestBelow (block * BLOCK + BLOCK) entries.now picks.now result }
+{
+    let mut best = known;
+    for place in 0..BLOCK {
+        let key = block * BLOCK + place;
+        if let Some(entry) = entries.get(key) {
+            let stuck = entry.conflict.is_stuck();
+            if exceeds(best, stuck, entry.value) && entry.conflict.applies(picks) {
+                best = bound_of(entry, key);
+            }
+        }
+    }
+    best
 }
 
 /// What an entry tells, under its key.

@@ -9,6 +9,7 @@ use crate::comparing::mark_changed;
 use crate::entry::Entry;
 use crate::looking::best_in;
 use crate::revising::{copy_table, keep_held, revise_all};
+use crate::summaries::Summaries;
 use crate::trimming::{give_up, given_up};
 use crate::worth::flow_worth;
 use crate::{Bound, Conflict};
@@ -26,6 +27,7 @@ pub struct Store {
     order: Vec<usize>,
     table: EdgeTable,
     changed: Vec<bool>,
+    summaries: Summaries,
 }
 
 impl Model for Store {
@@ -36,11 +38,13 @@ impl Model for Store {
     ghost use Rattle.std.specs.Prelude.{◌≡◌, length};
     ghost use Rattle.uhura_net.specs.declared.place.TheConstants.{PLACES};
     ghost use Rattle.uhura_conflict.specs.Entries.{shown_as, IsHeldStore};
+    ghost use Rattle.uhura_conflict.specs.Summaries.{AreSummed};
 
     ghost view = { λ s. shown_as s.entries s.order.items s.table };
 
     ghost invariant = { λ s.
-        IsHeldStore s.entries s.order.items s.table × (length s.changed.items ≡ PLACES) };
+        IsHeldStore s.entries s.order.items s.table × (length s.changed.items ≡ PLACES)
+        × AreSummed s.summaries s.entries };
 }
 
 impl Store {
@@ -53,6 +57,7 @@ impl Store {
             order: Vec::new(alloc),
             table: EdgeTable::new(alloc)?,
             changed: vec![in alloc; false; PLACES]?,
+            summaries: Summaries::new(alloc),
         })
     }
 
@@ -62,7 +67,7 @@ impl Store {
         ensures best { IsBest self.now prefix.now result }
         ensures sound { IsStore self.now }
     {
-        best_in(&self.entries, prefix.entries())
+        best_in(&self.entries, &self.summaries, prefix.entries())
     }
 
     /// Adds a conflict under a key that has none, and gives it back where there is no memory. It is to exceed the
@@ -79,8 +84,14 @@ impl Store {
         if self.order.reserve(1).is_err() || self.entries.reserve(1).is_err() {
             return Err(conflict);
         }
+        let key = self.entries.vacant_key();
+        if self.summaries.reach(key).is_err() {
+            return Err(conflict);
+        }
         let value = flow_worth(&conflict, &self.table);
-        let key = self.entries.insert_reserved(Entry { conflict, value });
+        let entry = Entry { conflict, value };
+        self.summaries.add(key, &entry);
+        self.entries.insert_reserved(entry);
         self.order.push_reserved(key);
         Ok(key)
     }
@@ -106,6 +117,7 @@ impl Store {
             return;
         }
         revise_all(&mut self.entries, &self.table, table, &self.changed);
+        self.summaries.renew(&self.entries);
         keep_held(&mut self.order, &self.entries);
         copy_table(&mut self.table, table);
     }
@@ -116,6 +128,10 @@ impl Store {
         ensures sound { IsStore self.new }
     {
         let count = given_up(&self.order, &self.entries, most);
+        if count == 0 {
+            return;
+        }
         give_up(&mut self.order, &mut self.entries, count);
+        self.summaries.renew(&self.entries);
     }
 }
