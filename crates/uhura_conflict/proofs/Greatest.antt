@@ -1,5 +1,5 @@
 -- The best of the conflicts under the first keys.
-use Rattle.std.proofs.Common.{◌≡◌, ◌⊎◌, ℕ, ◌+◌, ◌<◌, ◌≤◌, ℤ, pos, ◌≤ℤ◌, ◌<ℤ◌, Bool, true, false, ◌||◌, List, length, Option, Some, None, cond, inl, inr, ap, sym, subst, refl, ◌∙◌, arith}
+use Rattle.std.proofs.Common.{◌≡◌, ◌⊎◌, ℕ, zero, suc, ◌+◌, ◌<◌, ◌≤◌, ℤ, pos, ◌≤ℤ◌, ◌<ℤ◌, Bool, true, false, ◌||◌, List, length, Option, Some, None, cond, inl, inr, ap, sym, subst, refl, ◌∙◌, arith}
 use Rattle.std.specs.Prelude.{IsTrue, IsFalse, IfSome, int_lt}
 use Rattle.std.proofs.lemmas.Int.{ints, by_lt_z}
 use Rattle.std.proofs.lemmas.Bool.Decides.{nat_tests}
@@ -15,7 +15,7 @@ use Rattle.uhura_conflict.specs.declared.entry.Entry.{Entry}
 use Rattle.uhura_conflict.specs.Learned.{Learned}
 use Rattle.uhura_conflict.specs.Literals.{Applies}
 use Rattle.uhura_conflict.specs.Store.{Applying, NoCycle, IsFirstCycle, IsBefore, IsGreatestFlow, IsBestAmong, AppliesAt, conflict_at, value_at}
-use Rattle.uhura_conflict.specs.Entries.{conflict_of, shown_as, IsWorth, AreWorth, exceeds, bound_of}
+use Rattle.uhura_conflict.specs.Entries.{conflict_of, shown_as, IsWorth, AreWorth, exceeds, bound_of, Below, IsBestBelow}
 
 -- a firm cycle under a later key comes where there was none
 abbrev with_cycle : Bound → ℕ → Bound
@@ -34,10 +34,6 @@ with_flow Nothing value key = cond (int_lt (pos 0) value) (Flow value key) Nothi
 abbrev with_entry : Bound → Entry → ℕ → Bound
 with_entry best entry key =
     cond entry.conflict.stuck (with_cycle best key) (with_flow best entry.value key)
-
--- those under the keys below one
-abbrev pub Below : ℕ → Applying → Applying
-Below n at = λ (key : ℕ) (conflict : Learned). (key < n) × at key conflict
 
 -- what stands under a key of the store
 pub shown_at : (entries : Slab Entry) (order : List ℕ) (table : List (Option Edge)) (key : ℕ) → conflict_at (shown_as entries order table) key ≡ conflict_of (get entries key)
@@ -285,14 +281,6 @@ module _ (entries : Slab Entry) (order : List ℕ) (table : List (Option Edge)) 
   best-with_entry n entry best is applies worth so_far =
       by_kind n entry best entry.conflict.stuck is applies (subst (λ found. IfSome found (IsWorth table)) is (worth n)) refl so_far
 
-  -- one that doesn't
-  pub best-without_entry : (n : ℕ) (entry : Entry) (best : Bound) → get entries n ≡ Some entry → (Applies picks entry.conflict → ⊥) →
-      IsBestAmong (Below n (AppliesAt (shown_as entries order table) picks)) (value_at (shown_as entries order table)) best →
-      IsBestAmong (Below (n + 1) (AppliesAt (shown_as entries order table) picks)) (value_at (shown_as entries order table)) best
-  best-without_entry n entry best is never so_far =
-      best-passed (AppliesAt (shown_as entries order table) picks) (value_at (shown_as entries order table)) n best
-      (λ c at. never (subst (λ (x : Learned). Applies picks x) (some_same (shown_here n (Some entry) c is at)) at.applies)) so_far
-
   -- one that applies and changes what is known
   pub best-exceeded : (n : ℕ) (entry : Entry) (best : Bound) → get entries n ≡ Some entry → Applies picks entry.conflict → exceeds best entry ≡ true → AreWorth entries table →
       IsBestAmong (Below n (AppliesAt (shown_as entries order table) picks)) (value_at (shown_as entries order table)) best →
@@ -302,14 +290,15 @@ module _ (entries : Slab Entry) (order : List ℕ) (table : List (Option Edge)) 
       (best-with_entry n entry best is applies worth so_far)
 
   -- one that would not change what is known
-  pub best-unexceeded : (n : ℕ) (entry : Entry) (best : Bound) → get entries n ≡ Some entry → exceeds best entry ≡ false → AreWorth entries table →
+  pub best-unexceeded : (n : ℕ) (entry : Entry) (best : Bound) → get entries n ≡ Some entry → (Applies picks entry.conflict → exceeds best entry ≡ false) → AreWorth entries table →
       IsBestAmong (Below n (AppliesAt (shown_as entries order table) picks)) (value_at (shown_as entries order table)) best →
       IsBestAmong (Below (n + 1) (AppliesAt (shown_as entries order table) picks)) (value_at (shown_as entries order table)) best
   best-unexceeded n entry best is none worth so_far =
       best-lift (AppliesAt (shown_as entries order table) picks) (value_at (shown_as entries order table)) n best
       (λ c at.
-      subst (λ b. IsBestAmong (Below (n + 1) (AppliesAt (shown_as entries order table) picks)) (value_at (shown_as entries order table)) b) (unexceeded best entry n none)
-      (best-with_entry n entry best is (subst (λ (x : Learned). Applies picks x) (some_same (shown_here n (Some entry) c is at)) at.applies) worth so_far)) so_far
+      let applies : Applies picks entry.conflict = subst (λ (x : Learned). Applies picks x) (some_same (shown_here n (Some entry) c is at)) at.applies in
+      subst (λ b. IsBestAmong (Below (n + 1) (AppliesAt (shown_as entries order table) picks)) (value_at (shown_as entries order table)) b) (unexceeded best entry n (none applies))
+      (best-with_entry n entry best is applies worth so_far)) so_far
 
   no_entry : (c : Learned) → conflict_of None ≡ Some c → ⊥
   no_entry c is = absurd (cc)
@@ -335,3 +324,19 @@ module _ (entries : Slab Entry) (order : List ℕ) (table : List (Option Edge)) 
         ],
         there,
       )) so_far
+
+-- the entry under a key, if there is one, would not change what is known
+best-at : (entries : Slab Entry) (picks : List Pick) (best : Bound) (n : ℕ) (found : Option Entry) → get entries n ≡ found →
+    IfSome found (λ entry. Applies picks entry.conflict → exceeds best entry ≡ false) → IsBestBelow n entries picks best → IsBestBelow (n + 1) entries picks best
+best-at entries picks best n None is none so_far = λ order table worth. best-at_none entries order table picks n best is (so_far order table worth)
+best-at entries picks best n (Some entry) is none so_far = λ order table worth. best-unexceeded entries order table picks n entry best is none worth (so_far order table worth)
+
+-- keys whose entries would not change what is known are passed over
+pub best-passed_over : (entries : Slab Entry) (picks : List Pick) (best : Bound) (from count : ℕ) →
+    ((key : ℕ) → from ≤ key → key < from + count → IfSome (get entries key) (λ entry. Applies picks entry.conflict → exceeds best entry ≡ false)) →
+    IsBestBelow from entries picks best → IsBestBelow (from + count) entries picks best
+best-passed_over entries picks best from zero none so_far = let next : from ≡ from + 0 = omega arith in subst (λ n. IsBestBelow n entries picks best) next so_far
+best-passed_over entries picks best from (suc count) none so_far =
+    let before : IsBestBelow (from + count) entries picks best = best-passed_over entries picks best from count (λ key least less. none key least (omega arith)) so_far in
+    let next : from + count + 1 ≡ from + suc count = omega arith in
+    subst (λ n. IsBestBelow n entries picks best) next (best-at entries picks best (from + count) (get entries (from + count)) refl (none (from + count) (omega arith) (omega arith)) before)

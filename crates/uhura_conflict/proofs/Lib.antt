@@ -10,3 +10,4 @@ pub mod Untouched
 pub mod Differing
 pub mod Serving
 pub mod Using
+pub mod Summing
