@@ -77,7 +77,7 @@ best-passed at values n best none is =
 pub lt_z : (a b : ℤ) → int_lt a b ≡ true → a <ℤ b
 lt_z a b more = by_lt_z {P = a <ℤ b} a b (λ less. less) (λ least. grind (arith, ints, nat_tests))
 
-le_z : (a b : ℤ) → int_lt a b ≡ false → b ≤ℤ a
+pub le_z : (a b : ℤ) → int_lt a b ≡ false → b ≤ℤ a
 le_z a b less = by_lt_z {P = b ≤ℤ a} a b (λ more. grind (arith, ints, nat_tests)) (λ least. least)
 
 pub true_false : {b : Bool} → b ≡ true → b ≡ false → ⊥

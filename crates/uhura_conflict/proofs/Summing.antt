@@ -1,5 +1,5 @@
 -- What summaries say of entries, as entries come, go and change.
-use Rattle.std.proofs.Common.{◌≡◌, ◌≢◌, ◌⊎◌, ℕ, ◌+◌, ◌*◌, ◌/◌, ◌<◌, ◌≤◌, ℤ, ◌≤ℤ◌, Bool, true, false, ◌||◌, List, length, get_or, Option, Some, None, inl, inr, ap, sym, subst, refl, ◌∙◌, arith}
+use Rattle.std.proofs.Common.{◌≡◌, ◌≢◌, ◌⊎◌, ℕ, ◌+◌, ◌*◌, ◌/◌, ◌<◌, ◌≤◌, ℤ, pos, ◌≤ℤ◌, Bool, true, false, ◌||◌, List, length, get_or, Option, Some, None, inl, inr, ap, sym, subst, refl, ◌∙◌, arith}
 use Rattle.std.specs.Prelude.{IsTrue, IsFalse, IsSome, IfSome, is_some, int_lt, option_and_then}
 use Rattle.std.proofs.lemmas.Int.{ints}
 use Rattle.std.proofs.lemmas.Bool.{cases_Bool, cases_eq, cases_lt}
@@ -23,7 +23,7 @@ use Rattle.uhura_conflict.proofs.Greatest.{true_false, lt_z, le_z, best-passed_o
 not_less : (a b : ℤ) → b ≤ℤ a → int_lt a b ≡ false
 not_less a b least = elim (cases_Bool (int_lt a b)) [
   | inl less ↦ absurd (omega (arith, ints, least, lt_z a b less))
-  | inr no ↦ no
+  | inr least_so ↦ least_so
 ]
 
 -- what a wider value doesn't exceed, a narrower doesn't

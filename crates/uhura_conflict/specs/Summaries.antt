@@ -1,6 +1,6 @@
 -- What the entries of a block of keys have in common.
 use Rattle.std.specs.Prelude.{ℕ, ◌/◌, ◌<◌, ◌≤ℤ◌, IsTrue, IsFalse, IsSome, IfSome, List, length, Option, None, Some, slice_index_or}
-use Rattle.slab.specs.Slab.{Slab, get}
+use Rattle.slab.specs.Slab.{Slab, get, Updates}
 use Rattle.uhura_plan.specs.declared.guard.Literal.{Literal}
 use Rattle.uhura_choice.specs.declared.prefix.Pick.{Pick}
 use Rattle.uhura_conflict.specs.declared.bound.Bound.{Bound}
@@ -33,6 +33,15 @@ AreCovered size blocks entries = (key : ℕ) →
 pub record AreSummed (summaries : Summaries) (entries : Slab Entry) : Type 0 where
   pub groups : AreCovered GROUP summaries.groups.items entries
   pub blocks : AreCovered BLOCK summaries.blocks.items entries
+
+-- what the one covers, the other covers
+abbrev pub CoverNoFewer : Summaries → Summaries → Type 0
+CoverNoFewer old new = (entries : Slab Entry) → AreSummed old entries → AreSummed new entries
+
+-- the other covers it also once this entry comes under the key
+abbrev pub TakeIn : Summaries → Summaries → ℕ → Entry → Type 0
+TakeIn old new key entry = (before after : Slab Entry) → Updates before after key (Some entry) →
+    AreSummed old before → AreSummed new after
 
 -- the key has its block among so many, of so many keys
 abbrev pub IsInRange : ℕ → List (Option Summary) → ℕ → Type 0

@@ -1,5 +1,5 @@
 //! The summaries of blocks, each of so many keys.
-ghost use Rattle.std.specs.Prelude.{◌≡◌, ◌/◌, ◌<◌, ◌≤◌, ◌^◌, ℕ, IsSome, OnOk, None, length, slice_index_or};
+ghost use Rattle.std.specs.Prelude.{◌≡◌, ◌/◌, ◌<◌, ◌≤◌, ◌^◌, ℕ, IsFalse, IsSome, OnOk, None, length, slice_index_or};
 ghost use Rattle.slab.specs.Slab.{get};
 ghost use Rattle.uhura_conflict.specs.declared.entry.Entry.{Entry};
 ghost use Rattle.uhura_conflict.specs.Summaries.{IsCoveredBy, AreCovered, IsInRange, CannotMatter};

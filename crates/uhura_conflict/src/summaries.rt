@@ -1,8 +1,7 @@
 //! What the entries of a store have in common, by groups and by blocks of keys.
-ghost use Rattle.std.specs.Prelude.{◌≡◌, ℕ, [], Some, IsSome, OnOk};
-ghost use Rattle.slab.specs.Slab.{Slab, get, Updates};
-ghost use Rattle.uhura_conflict.specs.declared.entry.Entry.{Entry};
-ghost use Rattle.uhura_conflict.specs.Summaries.{AreSummed, IsReached};
+ghost use Rattle.std.specs.Prelude.{◌≡◌, ℕ, [], IsSome, OnOk};
+ghost use Rattle.slab.specs.Slab.{get};
+ghost use Rattle.uhura_conflict.specs.Summaries.{AreSummed, IsReached, CoverNoFewer, TakeIn};
 
 use crate::blocks::{reach, renew, widen};
 use crate::entry::Entry;
@@ -41,8 +40,7 @@ impl Summaries {
     /// Makes room for an entry under this key.
     pub(crate) fn reach(&mut self, key: usize) -> Result<(), AllocError>
         ensures room { OnOk result (IsReached self.new key) }
-        ensures kept { (entries : Slab Entry) → AreSummed self.old entries →
-            AreSummed self.new entries }
+        ensures kept { CoverNoFewer self.old self.new }
     {
         reach(&mut self.groups, key / GROUP)?;
         reach(&mut self.blocks, key / BLOCK)
@@ -51,8 +49,7 @@ impl Summaries {
     /// Takes in an entry that comes under this key.
     pub(crate) fn add(&mut self, key: usize, entry: &Entry)
         requires { IsReached self.old key }
-        ensures { (old new : Slab Entry) → Updates old new key (Some entry.now) →
-            AreSummed self.old old → AreSummed self.new new }
+        ensures { TakeIn self.old self.new key entry.now }
     {
         widen(&mut self.groups, key / GROUP, entry);
         widen(&mut self.blocks, key / BLOCK, entry);

@@ -3,7 +3,7 @@ use Rattle.std.specs.Prelude.{option_copied}
 use Rattle.slab.specs.Slab.{get}
 use Rattle.uhura_conflict.specs.declared.bound.Bound.{Bound}
 use Rattle.uhura_conflict.specs.declared.summaries.TheConstants.{BLOCK}
-use Rattle.uhura_conflict.specs.Entries.{IsBestBelow}
+use Rattle.uhura_conflict.specs.Entries.{exceeds_by, IsBestBelow}
 use Rattle.uhura_conflict.proofs.Greatest.{true_false, best-exceeded, best-unexceeded, best-at_none}
 use Rattle.uhura_conflict.proofs.looking.best_in_block.Goals as goal
 use Rattle.uhura_conflict.proofs.looking.best_in_block.Goals.{in-Some+then-exceeds+then-applies, in-Some+else-exceeds, else-exceeds-via-then-exceeds+else-applies, else-exceeds-via-else-exceeds, in_default}
