@@ -282,6 +282,12 @@ module _ (old new : Slab Entry) (order : List ℕ) (table : List (Option Edge)) 
     fewest = λ fewer less. subst (λ n. most < n) (sym (pairs_before (drop fewer order))) (fewest fewer less);
   }
 
+-- none is given up
+pub untrimmed : (entries : Slab Entry) (order : List ℕ) (table : List (Option Edge)) (most : ℕ) → IsHeldStore entries order table → pairs_among entries order ≤ most →
+    Trims (shown_as entries order table) (shown_as entries order table) most 0
+untrimmed entries order table most before within =
+    trims entries entries order table most 0 (omega arith) (λ key goes. absurd (omega (arith, goes.1))) (λ key stays. refl) (λ key. inr refl) before within (λ fewer less. absurd (omega arith))
+
 -- what an entry keeps
 pub kept_for : (entries : Slab Entry) (order : List ℕ) (table : List (Option Edge)) → IsHeldStore entries order table → (key : ℕ) → IfSome (get entries key) (IsKeptFor table)
 kept_for entries order table held key =

@@ -1,9 +1,9 @@
 -- What summaries say of entries, as entries come, go and change.
-use Rattle.std.proofs.Common.{◌≡◌, ◌≢◌, ◌⊎◌, ℕ, ◌+◌, ◌*◌, ◌/◌, ◌<◌, ◌≤◌, ℤ, pos, ◌≤ℤ◌, Bool, true, false, ◌||◌, List, length, get_or, Option, Some, None, inl, inr, ap, sym, subst, refl, ◌∙◌, arith}
+use Rattle.std.proofs.Common.{◌≡◌, ◌≢◌, ◌⊎◌, ℕ, ◌+◌, ◌*◌, ◌/◌, ◌<◌, ◌≤◌, ℤ, pos, ◌≤ℤ◌, Bool, true, false, ◌||◌, List, [], ◌∷◌, ◌++◌, length, get_or, Option, Some, None, inl, inr, ap, sym, subst, refl, ◌∙◌, arith}
 use Rattle.std.specs.Prelude.{IsTrue, IsFalse, IsSome, IfSome, is_some, int_lt, option_and_then}
 use Rattle.std.proofs.lemmas.Int.{ints}
 use Rattle.std.proofs.lemmas.Bool.{cases_Bool, cases_eq, cases_lt}
-use Rattle.std.proofs.lemmas.List.{get_or_past}
+use Rattle.std.proofs.lemmas.List.{get_or_past, get_or_push, get_or_append_left, length-append}
 use Rattle.slab.specs.Slab.{Slab, get, Updates}
 use Rattle.uhura_choice.specs.declared.prefix.Pick.{Pick}
 use Rattle.uhura_net.specs.declared.edge.Edge.{Edge}
@@ -121,3 +121,19 @@ reached-either summaries old new either =
       | inl none ↦ absurd (true_false some (ap is_some none))
       | inr same ↦ sym (ap is_some same) ∙ some
     ])
+
+-- how much room there is says nothing of what is covered
+pub summed-capacity : (summaries : Summaries) (entries : Slab Entry) (capacity : ℕ) → AreSummed summaries entries → AreSummed summaries (record entries { capacity = capacity })
+summed-capacity summaries entries capacity summed = record { groups = summed.groups; blocks = summed.blocks }
+
+-- what comes to a list without an entry changes nothing
+pub pushed-none : (blocks : List (Option Summary)) (block : ℕ) → get_or (blocks ++ None ∷ []) block None ≡ get_or blocks block None
+pushed-none blocks block =
+    elim (cases_lt block (length blocks)) [
+      | inl below ↦ get_or_append_left blocks (None ∷ []) None block below
+      | inr past ↦
+          elim (cases_eq block (length blocks)) [
+            | inl same ↦ get_or_push blocks None None block (sym same) ∙ sym (get_or_past blocks block None past)
+            | inr differs ↦ get_or_past (blocks ++ None ∷ []) block None (omega (arith, length-append blocks (None ∷ []))) ∙ sym (get_or_past blocks block None past)
+          ]
+    ]

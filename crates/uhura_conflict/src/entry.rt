@@ -1,6 +1,6 @@
 //! A conflict with its value.
 ghost use Rattle.std.specs.Prelude.{◌≡◌};
-ghost use Rattle.uhura_conflict.specs.Entries.{exceeds_by};
+ghost use Rattle.uhura_conflict.specs.Entries.{exceeds, exceeds_by};
 
 use crate::{Bound, Conflict};
 
@@ -11,8 +11,16 @@ pub(crate) struct Entry {
     pub(crate) value: i128,
 }
 
-/// Whether a firm cycle, or else a flow of this value, would change what is known, if it applies: it is quicker to tell
-/// than whether it does.
+impl Entry {
+    /// Whether it would change what is known, if it applies: it is quicker to tell than whether it does.
+    pub(crate) fn exceeds(&self, best: Bound) -> bool
+        ensures { result ≡ exceeds best self.now }
+    {
+        exceeds(best, self.conflict.is_stuck(), self.value)
+    }
+}
+
+/// Whether a firm cycle, or else a flow of this value, would change what is known, if it applies.
 pub(crate) fn exceeds(best: Bound, stuck: bool, value: i128) -> bool
     ensures { result ≡ exceeds_by best stuck value }
 {

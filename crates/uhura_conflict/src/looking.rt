@@ -7,7 +7,7 @@ ghost use Rattle.uhura_conflict.specs.Summaries.{AreCovered, AreSummed};
 
 use crate::Bound;
 use crate::blocks::may_matter_in;
-use crate::entry::{Entry, exceeds};
+use crate::entry::Entry;
 use crate::summaries::{BLOCK, BLOCKS, GROUP, Summaries};
 use crate::summary::Summary;
 use slab::Slab;
@@ -62,8 +62,7 @@ fn best_in_block(entries: &Slab<Entry>, block: usize, known: Bound, picks: &[Pic
     for place in 0..BLOCK {
         let key = block * BLOCK + place;
         if let Some(entry) = entries.get(key) {
-            let stuck = entry.conflict.is_stuck();
-            if exceeds(best, stuck, entry.value) && entry.conflict.applies(picks) {
+            if entry.exceeds(best) && entry.conflict.applies(picks) {
                 best = bound_of(entry, key);
             }
         }

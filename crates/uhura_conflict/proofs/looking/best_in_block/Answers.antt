@@ -3,7 +3,7 @@ use Rattle.std.specs.Prelude.{option_copied}
 use Rattle.slab.specs.Slab.{get}
 use Rattle.uhura_conflict.specs.declared.bound.Bound.{Bound}
 use Rattle.uhura_conflict.specs.declared.summaries.TheConstants.{BLOCK}
-use Rattle.uhura_conflict.specs.Entries.{exceeds_by, IsBestBelow}
+use Rattle.uhura_conflict.specs.Entries.{IsBestBelow}
 use Rattle.uhura_conflict.proofs.Greatest.{true_false, best-exceeded, best-unexceeded, best-at_none}
 use Rattle.uhura_conflict.proofs.looking.best_in_block.Goals as goal
 use Rattle.uhura_conflict.proofs.looking.best_in_block.Goals.{in-Some+then-exceeds+then-applies, in-Some+else-exceeds, else-exceeds-via-then-exceeds+else-applies, else-exceeds-via-else-exceeds, in_default}
@@ -27,7 +27,7 @@ loop-place-preserved c =
       | in-Some+then-exceeds+then-applies w ↦
           subst Is (sym w.best-is) (subst Is (sym w.bound_of-best.ensures) (λ order table worth.
           best-exceeded entries order table picks n w.in-Some.entry.now best (sym w.in-Some.ensures) (w.applies.ensures.0 w.if-applies.true)
-          (ap (λ stuck. exceeds_by best stuck w.in-Some.entry.now.value) (sym w.is_stuck-stuck.ensures) ∙ (sym w.exceeds.ensures ∙ w.if-exceeds.true)) worth (so_far order table worth)))
+          (sym w.exceeds.ensures ∙ w.if-exceeds.true) worth (so_far order table worth)))
       | in-Some+else-exceeds w ↦ subst Is (sym w.best-is) (elim w.else-exceeds.branch [
         | else-exceeds-via-then-exceeds+else-applies v ↦ λ order table worth.
             best-unexceeded entries order table picks n w.in-Some.entry.now best (sym w.in-Some.ensures) (λ it. absurd (true_false (v.applies.ensures.1 it) v.if-applies.false)) worth

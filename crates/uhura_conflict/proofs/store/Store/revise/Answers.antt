@@ -3,6 +3,7 @@ use Rattle.uhura_net.specs.declared.edge.Edge.{Edge}
 use Rattle.uhura_conflict.specs.Store.{Stored, IsStore, Revises}
 use Rattle.uhura_conflict.specs.Entries.{shown_as, IsHeldStore}
 use Rattle.uhura_conflict.proofs.Keeping.{kept_for, unchanged-revises, revises, held-revised}
+use Rattle.uhura_conflict.proofs.Summing.{reached-revised}
 use Rattle.uhura_conflict.proofs.store.Store.revise.Goals as goal
 
 pub returns-then-not-mark_changed-clause-revised : goal.returns-then-not-mark_changed-clause-revised
@@ -19,6 +20,9 @@ revise_all-requires-clause-marked c = rw c.deref.ensures.value c.mark_changed.en
 pub revise_all-requires-clause-kept : goal.revise_all-requires-clause-kept
 revise_all-requires-clause-kept c = kept_for c.self.inside.entries c.self.inside.order.items c.self.inside.table c.self.invariant.0
 
+pub renew-requires : goal.renew-requires
+renew-requires c = reached-revised c.self.inside.summaries c.self.inside.entries c.revise_all.new.entries c.self.inside.table c.args.table.now c.revise_all.ensures c.self.invariant.2
+
 pub invariant_of-self-2 : goal.invariant_of-self-2
 invariant_of-self-2 c =
     let inside = c.self.inside in (
@@ -26,6 +30,7 @@ invariant_of-self-2 c =
           (held-revised inside.entries c.revise_all.new.entries inside.order.items c.keep_held.new.order.items inside.table c.args.table.now c.revise_all.ensures c.keep_held.ensures
           c.self.invariant.0.sound),
       c.mark_changed.ensures.marked.places,
+      c.renew.ensures,
     )
 
 pub returns-clause-revised : goal.returns-clause-revised

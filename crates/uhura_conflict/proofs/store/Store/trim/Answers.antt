@@ -1,11 +1,26 @@
 use Rattle.std.proofs.Common.{ℕ, ◌<◌, ◌≤◌, List, drop, length, ap, sym, subst, arith}
 use Rattle.uhura_conflict.specs.Store.{Stored, IsStore, Trims}
 use Rattle.uhura_conflict.specs.Entries.{shown_as, IsHeldStore, pairs_among}
-use Rattle.uhura_conflict.proofs.Keeping.{held-left, trims}
+use Rattle.uhura_conflict.proofs.Keeping.{held-left, trims, untrimmed}
+use Rattle.uhura_conflict.proofs.Summing.{reached-either}
 use Rattle.uhura_conflict.proofs.store.Store.trim.Goals as goal
 
-pub invariant_of-self : goal.invariant_of-self
-invariant_of-self c = (
+pub returns-then-count-eq0-clause-trimmed : goal.returns-then-count-eq0-clause-trimmed
+returns-then-count-eq0-clause-trimmed c =
+    let inside = c.self.inside in
+    let order = inside.order.items in
+    let within : pairs_among inside.entries (drop c.given_up-count.result order) ≤ c.args.most =
+    subst (λ (keys : List ℕ). pairs_among inside.entries (drop c.given_up-count.result keys) ≤ c.args.most) c.deref.ensures.value c.given_up-count.ensures.within in
+    let whole : pairs_among inside.entries order ≤ c.args.most = subst (λ (n : ℕ). pairs_among inside.entries (drop n order) ≤ c.args.most) c.if-count-eq0.true within in (
+      0,
+      subst (λ (store : Stored). Trims store (shown_as inside.entries order inside.table) c.args.most 0) c.self.view_is (untrimmed inside.entries order inside.table c.args.most c.self.invariant.0 whole),
+    )
+
+pub renew-requires : goal.renew-requires
+renew-requires c = reached-either c.self.inside.summaries c.self.inside.entries c.give_up.new.entries c.give_up.ensures.either c.self.invariant.2
+
+pub invariant_of-self-2 : goal.invariant_of-self-2
+invariant_of-self-2 c = (
   let inside = c.self.inside in
       let order = inside.order.items in
       let count = c.given_up-count.result in
@@ -13,6 +28,7 @@ invariant_of-self c = (
       subst (λ (keys : List ℕ). IsHeldStore c.give_up.new.entries keys inside.table) (sym c.give_up.ensures.order)
       (held-left inside.entries c.give_up.new.entries order inside.table c.args.most count few c.give_up.ensures.given_up c.give_up.ensures.others c.give_up.ensures.either c.self.invariant.0),
   c.self.invariant.1,
+  c.renew.ensures,
 )
 
 pub returns-clause-trimmed : goal.returns-clause-trimmed
