@@ -25,20 +25,22 @@ pub(crate) fn reach(blocks: &mut Vec<Option<Summary>>, block: usize) -> Result<(
 }
 
 /// Takes an entry into the summary of a block.
-pub(crate) fn widen(blocks: &mut [Option<Summary>], block: usize, entry: &Entry)
-    requires { block < length blocks.old }
-    ensures here { IsCoveredBy (slice_index_or blocks.new block None) entry.now }
-    ensures kept { (other : ℕ) (it : Entry) → IsCoveredBy (slice_index_or blocks.old other None) it →
-        IsCoveredBy (slice_index_or blocks.new other None) it }
+pub(crate) fn widen(blocks: &mut Vec<Option<Summary>>, block: usize, entry: &Entry)
+    requires { block < length blocks.old.items }
+    ensures here { IsCoveredBy (slice_index_or blocks.new.items block None) entry.now }
+    ensures kept { (other : ℕ) (it : Entry) →
+        IsCoveredBy (slice_index_or blocks.old.items other None) it →
+        IsCoveredBy (slice_index_or blocks.new.items other None) it }
+    ensures room { length blocks.new.items ≡ length blocks.old.items }
 {
     blocks[block] = Some(widened(&blocks[block], entry));
 }
 
 /// Makes the summaries anew.
-pub(crate) fn renew(blocks: &mut [Option<Summary>], size: usize, entries: &Slab<Entry>)
+pub(crate) fn renew(blocks: &mut Vec<Option<Summary>>, size: usize, entries: &Slab<Entry>)
     requires size { 1 ≤ size }
-    requires room { (key : ℕ) → IsSome (get entries.now key) → IsInRange size blocks.old key }
-    ensures { AreCovered size blocks.new entries.now }
+    requires room { (key : ℕ) → IsSome (get entries.now key) → IsInRange size blocks.old.items key }
+    ensures { AreCovered size blocks.new.items entries.now }
 {
     blocks.fill(None);
     for key in 0..entries.capacity() {

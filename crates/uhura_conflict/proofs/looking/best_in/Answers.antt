@@ -1,7 +1,7 @@
 use Rattle.std.proofs.Common.{◌≡◌, ◌+◌, ◌*◌, ◌/◌, ◌<◌, ◌≤◌, ℕ, List, Option, length, subst, sym, arith}
 use Rattle.uhura_conflict.specs.declared.bound.Bound.{Bound}
 use Rattle.uhura_conflict.specs.declared.summary.Summary.{Summary}
-use Rattle.uhura_conflict.specs.declared.summaries.TheConstants.{BLOCK, GROUP}
+use Rattle.uhura_conflict.specs.declared.summaries.TheConstants.{GROUP}
 use Rattle.uhura_conflict.specs.Store.{AppliesAt, value_at}
 use Rattle.uhura_conflict.specs.Entries.{shown_as, IsBestBelow}
 use Rattle.uhura_conflict.specs.Summaries.{AreCovered}
@@ -12,10 +12,6 @@ use Rattle.uhura_conflict.proofs.looking.best_in.Goals.{then-may_matter_in, else
 
 pub loop-group-init : goal.loop-group-init
 loop-group-init c = λ order table worth. best-none (AppliesAt (shown_as c.args.entries.now order table) c.args.picks.now) (value_at (shown_as c.args.entries.now order table))
-
-pub best_in_group-requires-clause-covered : goal.best_in_group-requires-clause-covered
-best_in_group-requires-clause-covered c =
-    subst (λ (blocks : List (Option Summary)). AreCovered BLOCK blocks c.args.entries.now) (sym c.deref-then-may_matter_in.ensures.value) c.requires.blocks
 
 pub loop-group-preserved : goal.loop-group-preserved
 loop-group-preserved c =

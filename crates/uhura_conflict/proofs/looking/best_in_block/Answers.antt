@@ -39,3 +39,8 @@ loop-place-preserved c =
           let none : get entries n ≡ None = sym c.get.ensures ∙ ap option_copied w.in_default.is in
           subst Is (sym w.best-is) (λ order table worth. best-at_none entries order table picks n best none (so_far order table worth))
     ])
+
+pub returns : goal.returns
+returns c =
+    let last : c.args.block * BLOCK + c.loop-place.place ≡ c.args.block * BLOCK + BLOCK = omega (arith, c.loop-place-test.false, c.loop-place.auto.place-end) in
+    subst (λ n. IsBestBelow n c.args.entries.now c.args.picks.now c.loop-place.best) last c.loop-place.invariant

@@ -13,14 +13,14 @@ returns-then-count-eq0-clause-trimmed c =
     subst (λ (keys : List ℕ). pairs_among inside.entries (drop c.given_up-count.result keys) ≤ c.args.most) c.deref.ensures.value c.given_up-count.ensures.within in
     let whole : pairs_among inside.entries order ≤ c.args.most = subst (λ (n : ℕ). pairs_among inside.entries (drop n order) ≤ c.args.most) c.if-count-eq0.true within in (
       0,
-      subst (λ (store : Stored). Trims store (shown_as inside.entries order inside.table) c.args.most 0) c.self.view_is (untrimmed inside.entries order inside.table c.args.most c.self.invariant.0 whole),
+      subst (λ (store : Stored). Trims store store c.args.most 0) c.self.view_is (untrimmed inside.entries order inside.table c.args.most c.self.invariant.0 whole),
     )
 
 pub renew-requires : goal.renew-requires
 renew-requires c = reached-either c.self.inside.summaries c.self.inside.entries c.give_up.new.entries c.give_up.ensures.either c.self.invariant.2
 
-pub invariant_of-self-2 : goal.invariant_of-self-2
-invariant_of-self-2 c = (
+pub invariant_of-self : goal.invariant_of-self
+invariant_of-self c = (
   let inside = c.self.inside in
       let order = inside.order.items in
       let count = c.given_up-count.result in
