@@ -60,9 +60,9 @@ Below n at = λ (key : ℕ) (conflict : Learned). (key < n) × at key conflict
 
 -- the best that the entries under the keys below one tell of the branches with these picks
 abbrev pub IsBestBelow : ℕ → Slab Entry → List Pick → Bound → Type 0
-IsBestBelow n entries picks best = (order : List ℕ) (table : List (Option Edge)) → AreWorth entries table →
-    IsBestAmong (Below n (AppliesAt (shown_as entries order table) picks))
-        (value_at (shown_as entries order table)) best
+IsBestBelow n entries picks best = (order : List ℕ) (table : List (Option Edge)) →
+    AreWorth entries table → IsBestAmong (Below n (AppliesAt (shown_as entries order table) picks))
+    (value_at (shown_as entries order table)) best
 
 -- the entry under a key is kept where it outlasts the change of tables, and is worth what it is worth at the new one
 pub record RevisesAt (old new : Slab Entry) (from to : List (Option Edge)) (key : ℕ)

@@ -11,8 +11,8 @@ use Rattle.uhura_conflict.specs.declared.summaries.TheConstants.{BLOCK, GROUP}
 use Rattle.uhura_conflict.specs.Literals.{Asks, Applies}
 use Rattle.uhura_conflict.specs.Entries.{exceeds}
 
--- an entry is one of those that a summary tells of: it has all its literals, is no firm cycle where none is, and is worth
--- no more than the greatest
+-- an entry is one of those that a summary tells of: it has all its literals, is a firm cycle only where one may be, and
+-- is worth no more than the greatest
 pub record Covers (summary : Summary) (entry : Entry) : Type 0 where
   pub literals : (literal : Literal) → Asks summary.literals literal →
       Asks entry.conflict.literals literal

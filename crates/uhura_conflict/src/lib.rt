@@ -1,8 +1,9 @@
 //! What was learned of branches, kept and shared. A conflict is a circulation, whose value no branch to which it
 //! applies can cost less than, or a closed walk that no times keep (`specs/Learned.antt`); it applies where the
 //! literals of its requirements are picked (`specs/Literals.antt`). A store keeps conflicts under keys while its
-//! table of edges changes, and finds the best of those that apply (`specs/Store.antt`, `specs/Kept.antt`). `laws`
-//! says when a conflict applies, and for which edges it is valid.
+//! table of edges changes, and finds the best of those that apply (`specs/Store.antt`, `specs/Kept.antt`) by what the
+//! conflicts of a block of keys have in common (`specs/Summaries.antt`). `laws` says when a conflict applies, and for
+//! which edges it is valid.
 #![tactic(auto)]
 
 mod blocks;
