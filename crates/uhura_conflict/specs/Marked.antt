@@ -1,5 +1,5 @@
 -- Where two tables may differ.
-use Rattle.std.specs.Prelude.{◌≡◌, ℕ, ◌<◌, Bool, false, List, Option, IfSome, length, slice_index_or}
+use Rattle.std.specs.Prelude.{◌≡◌, ℕ, ◌<◌, Bool, false, List, Option, IfSome, Contains, length, slice_index_or}
 use Rattle.uhura_net.specs.declared.edge.Edge.{Edge}
 use Rattle.uhura_net.specs.declared.place.Place.{Place}
 use Rattle.uhura_net.specs.declared.place.TheConstants.{PLACES}
@@ -16,3 +16,8 @@ pub record AreMarked (old new : List (Option Edge)) (changed : List Bool) : Type
   pub unmarked : (place : ℕ) → place < PLACES → slice_index_or changed place false ≡ false →
       edges_of new place ≡ edges_of old place
   pub sound : (place : ℕ) → IfSome (edges_of old place) (IsEdgeFor place)
+
+-- the tables have the same edge at each place that isn't among these
+abbrev pub DifferAmong : List (Option Edge) → List (Option Edge) → List ℕ → Type 0
+DifferAmong old new places = (place : ℕ) → place < PLACES → (Contains places place → ⊥) →
+    edges_of new place ≡ edges_of old place

@@ -1,8 +1,10 @@
 //! What was learned and kept.
-ghost use Rattle.std.specs.Prelude.{◌≡◌, ℕ, ◌≤◌, find, IfOk, IfErr, OnErr};
+ghost use Rattle.std.specs.Prelude.{◌≡◌, ℕ, ◌≤◌, ◌<◌, All, find, IfOk, IfErr, OnErr};
 ghost use Rattle.uhura_net.specs.Circulation.{edges_of};
 ghost use Rattle.uhura_conflict.specs.Learned.{IsValid};
 ghost use Rattle.uhura_conflict.specs.Literals.{Applies};
+ghost use Rattle.uhura_conflict.specs.Marked.{DifferAmong};
+ghost use Rattle.uhura_net.specs.declared.place.TheConstants.{PLACES};
 ghost use Rattle.uhura_conflict.specs.Store.{conflict_at, IsStore, empty_store, IsBest, ExceedsBest, Adds, Revises, Trims};
 
 use crate::comparing::mark_changed;
@@ -108,6 +110,18 @@ impl Store {
         revise_all(&mut self.entries, &self.table, table, &self.changed);
         keep_held(&mut self.order, &self.entries);
         copy_table(&mut self.table, table);
+    }
+
+    /// Takes over a table that differs from the last one at these places at most; otherwise as `revise`, but it takes
+    /// time in the places and in what was learned alone.
+    pub fn revise_at(&mut self, table: &EdgeTable, places: &[u32])
+        requires inside { All (λ place. place < PLACES) places.now }
+        requires differ { DifferAmong self.old.table table.now places.now }
+        ensures revised { Revises self.old self.new table.now }
+        ensures sound { IsStore self.new }
+    {
+        let _ = places;
+        self.revise(table);
     }
 
     /// Gives up the fewest conflicts, the earliest added first, that leave at most so many pairs of place and units.
