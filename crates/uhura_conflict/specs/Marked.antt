@@ -1,9 +1,9 @@
 -- Where two tables may differ.
-use Rattle.std.specs.Prelude.{◌≡◌, ℕ, ◌<◌, Bool, false, List, Option, IfSome, Contains, length, slice_index_or}
+use Rattle.std.specs.Prelude.{◌≡◌, ℕ, ◌<◌, Bool, false, List, Option, IfSome, Contains, length, replicate, slice_index_or}
 use Rattle.uhura_net.specs.declared.edge.Edge.{Edge}
 use Rattle.uhura_net.specs.declared.place.Place.{Place}
 use Rattle.uhura_net.specs.declared.place.TheConstants.{PLACES}
-use Rattle.uhura_net.specs.Table.{IsEdgeFor}
+use Rattle.uhura_net.specs.Table.{IsEdgeFor, IsTable}
 use Rattle.uhura_net.specs.Circulation.{edges_of}
 
 -- no mark stands at the place of a pair
@@ -21,3 +21,17 @@ pub record AreMarked (old new : List (Option Edge)) (changed : List Bool) : Type
 abbrev pub DifferAmong : List (Option Edge) → List (Option Edge) → List ℕ → Type 0
 DifferAmong old new places = (place : ℕ) → place < PLACES → (Contains places place → ⊥) →
     edges_of new place ≡ edges_of old place
+
+-- no mark stands at a place that isn't among these
+abbrev pub AreMarksAmong : List Bool → List ℕ → Type 0
+AreMarksAmong changed places = (place : ℕ) → (Contains places place → ⊥) →
+    slice_index_or changed place false ≡ false
+
+-- no mark stands
+abbrev pub AreCleared : List Bool → Type 0
+AreCleared changed = changed ≡ replicate PLACES false
+
+-- between two calls: each edge of the table may stand where it does, and no mark stands
+pub record IsAtRest (table : List (Option Edge)) (changed : List Bool) : Type 0 where
+  pub table : IsTable table
+  pub cleared : AreCleared changed

@@ -8,7 +8,7 @@ ghost use Rattle.uhura_conflict.specs.Used.{AreUsedAmong};
 ghost use Rattle.uhura_conflict.specs.Literals.{AreActiveTogether, AreUsedTogether, AreLiteralsOf, Applies};
 
 use crate::literals::{applies, literals_of};
-use crate::used::used_pairs;
+use crate::used::{used_among, used_pairs};
 use std::alloc::{AllocError, Global};
 use std::marker::Model;
 use std::rc::RcSlice;
@@ -71,8 +71,7 @@ impl Conflict {
         ensures literals { IfOk result (λ c.
             AreLiteralsOf plan.now (places_in c.pairs) c.literals) }
     {
-        let _ = places;
-        Conflict::flow(alloc, plan, net)
+        Conflict::of_pairs(plan, used_among(alloc, net, places)?, false)
     }
 
     /// The firm cycle along these places, each with 1 unit. In some branch all requirements among them are active.
