@@ -9,4 +9,5 @@ pub mod Keeping
 pub mod Untouched
 pub mod Differing
 pub mod Serving
+pub mod Among
 pub mod Using
