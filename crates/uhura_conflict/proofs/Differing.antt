@@ -7,13 +7,15 @@ use Rattle.uhura_net.specs.declared.edge.Edge.{Edge}
 use Rattle.uhura_net.specs.declared.place.TheConstants.{PLACES}
 use Rattle.uhura_net.specs.Table.{IsEdgeFor}
 use Rattle.uhura_net.specs.Circulation.{edges_of}
-use Rattle.uhura_conflict.specs.Marked.{AreMarked}
+use Rattle.uhura_conflict.specs.Marked.{AreMarked, AreCleared}
+use Rattle.uhura_conflict.proofs.Among.{all-cleared}
 
 -- the first places are compared
 pub record AreCompared (old new : List (Option Edge)) (changed : List Bool) (any : Bool) (n : ℕ) : Type 0 where
   pub places : length changed ≡ PLACES
   pub unmarked : (place : ℕ) → place < n → get_or changed place false ≡ false → edges_of new place ≡ edges_of old place
   pub none : any ≡ false → (place : ℕ) → place < n → edges_of new place ≡ edges_of old place
+  pub clear : any ≡ false → (place : ℕ) → place < n → get_or changed place false ≡ false
   pub sound : (place : ℕ) → place < n → IfSome (edges_of old place) (IsEdgeFor place)
   pub many : 1 ≤ n → (length old ≡ PLACES) × (length new ≡ PLACES)
 
@@ -22,6 +24,7 @@ compared-none old new changed any places = record {
   places = places;
   unmarked = λ place below. absurd (omega arith);
   none = λ nothing place below. absurd (omega arith);
+  clear = λ nothing place below. absurd (omega arith);
   sound = λ place below. absurd (omega arith);
   many = λ some. absurd (omega arith);
 }
@@ -53,6 +56,13 @@ compared-more old new changed any same n inside old_places new_places is sound s
             | inl here ↦ subst (λ p. edges_of new p ≡ edges_of old p) (sym here) (is (not_false same parts.1))
             | inr differs ↦ so_far.none parts.0 place (omega arith)
           ];
+      clear = λ nothing place below.
+          let parts = neither any (not same) nothing in
+          elim (cases_eq place n) [
+            | inl here ↦
+                subst (λ p. get_or (set changed n (not same)) p false ≡ false) (sym here) (get_or-set_same changed n (not same) false room ∙ parts.1)
+            | inr differs ↦ get_or-set_other changed n place (not same) false differs ∙ so_far.clear parts.0 place (omega arith)
+          ];
       sound = λ place below.
           elim (cases_eq place n) [
             | inl here ↦ subst (λ p. IfSome (edges_of old p) (IsEdgeFor p)) (sym here) sound
@@ -76,3 +86,6 @@ compared-same old new changed any n past compared nothing =
     let many = compared.many (omega arith) in
     same_lists new old (many.1 ∙ sym many.0)
     (λ k d below. get_or_default new k d None below ∙ (compared.none nothing k (omega (arith, many.1)) ∙ get_or_default old k None d (omega (arith, many.0, many.1))))
+
+pub compared-cleared : (old new : List (Option Edge)) (changed : List Bool) (any : Bool) (n : ℕ) → PLACES ≤ n → AreCompared old new changed any n → any ≡ false → AreCleared changed
+compared-cleared old new changed any n past compared nothing = all-cleared changed compared.places (λ place below. compared.clear nothing place (omega arith))

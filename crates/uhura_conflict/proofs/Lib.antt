@@ -9,5 +9,6 @@ pub mod Keeping
 pub mod Untouched
 pub mod Differing
 pub mod Serving
+pub mod Among
 pub mod Using
 pub mod Summing

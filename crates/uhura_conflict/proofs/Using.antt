@@ -1,7 +1,8 @@
 -- Pairs of places with units, one after another.
-use Rattle.std.proofs.Common.{◌≡◌, ℕ, suc, ◌+◌, ◌<◌, ◌≤◌, List, [], ◌∷◌, ◌++◌, cond, eqb, inl, inr, ap, sym, subst, refl, ◌∙◌, arith, length-append}
+use Rattle.std.proofs.Common.{◌≡◌, ℕ, suc, ◌+◌, ◌<◌, ◌≤◌, List, [], ◌∷◌, ◌++◌, cond, eqb, get_or, length, inl, inr, ap, sym, subst, refl, ◌∙◌, arith, length-append}
 use Rattle.std.specs.Prelude.{All, Contains}
-use Rattle.std.proofs.lemmas.Bool.{cases_eq, eq-eqb, ne_eqb}
+use Rattle.std.proofs.lemmas.Bool.{cases_eq, cases_lt, eq-eqb, ne_eqb}
+use Rattle.std.proofs.lemmas.List.{get_or_default, get_or_past}
 use Rattle.std.proofs.lemmas.List.Elements.{All-push, All-weaker, All-nil, All-map, All-contains}
 use Rattle.std.proofs.lemmas.List.Quantifiers.{all_pairs_push}
 use Rattle.uhura_plan.specs.Lists.{Lists}
@@ -10,7 +11,7 @@ use Rattle.uhura_net.specs.declared.place.TheConstants.{PLACES}
 use Rattle.uhura_net.specs.Circulation.{Units}
 use Rattle.uhura_conflict.specs.Learned.{places_in, units_in}
 use Rattle.uhura_conflict.specs.Literals.{AreActiveTogether, AreUsedTogether}
-use Rattle.uhura_conflict.specs.Used.{AreUsedBelow}
+use Rattle.uhura_conflict.specs.Used.{AreUsedBelow, AreUsedAmong}
 use Rattle.slab.proofs.SlabLemmas.{Contains-cons_cases}
 
 pub used-none : (units : Units) → AreUsedBelow units [] 0
@@ -70,6 +71,84 @@ used-same units pairs n none so_far = record {
       ];
   behind = λ place past. so_far.behind place (omega arith);
 }
+
+-- places without
+used-skip : (units : Units) (pairs : List (Place × ℕ)) (n m : ℕ) → n ≤ m → ((place : ℕ) → n ≤ place → place < m → units place ≡ 0) → AreUsedBelow units pairs n → AreUsedBelow units pairs m
+used-skip units pairs n m further none so_far = record {
+  inside = All-weaker (λ (p : Place × ℕ). p.0.0 < n) (λ (p : Place × ℕ). p.0.0 < m) (λ p less. omega (arith, less)) pairs so_far.inside;
+  rising = so_far.rising;
+  few = omega (arith, so_far.few);
+  some = so_far.some;
+  below = λ place less.
+      elim (cases_lt place n) [
+        | inl before ↦ so_far.below place before
+        | inr past ↦ so_far.behind place past ∙ sym (none place past less)
+      ];
+  behind = λ place past. so_far.behind place (omega arith);
+}
+
+-- no listed place is behind all places
+listed_inside : (units : Units) (places : List ℕ) (i : ℕ) → AreUsedAmong units places → get_or places i PLACES ≤ PLACES
+listed_inside units places i among =
+    elim (cases_lt i (length places)) [
+      | inl inside ↦ let small = among.inside i PLACES inside in omega (arith, small)
+      | inr past ↦ let end = get_or_past places i PLACES past in omega (arith, end)
+    ]
+
+-- between a place that is listed and the next one no place has units
+between : (units : Units) (places : List ℕ) (i place : ℕ) → AreUsedAmong units places → ((k : ℕ) → k < i → k < length places → get_or places k 0 < place) → place < get_or places i PLACES → units place ≡ 0
+between units places i place among past before =
+    elim (cases_lt 0 (units place)) [
+      | inl some ↦
+          let last = listed_inside units places i among in
+          let there = among.used place (omega arith) (omega arith) in
+          let k = there.0 in
+          let within : k < length places = there.1 in
+          elim (cases_lt k i) [
+            | inl earlier ↦
+                let here : get_or places k 0 ≡ place = get_or_default places k 0 place within ∙ there.2 in
+                let less = past k earlier within in
+                absurd (omega arith)
+            | inr later ↦
+                let here : get_or places k PLACES ≡ place = get_or_default places k PLACES place within ∙ there.2 in
+                elim (cases_eq i k) [
+                  | inl same ↦ let next : get_or places i PLACES ≡ place = ap (λ j. get_or places j PLACES) same ∙ here in absurd (omega arith)
+                  | inr differs ↦ let rises = among.rising i k PLACES (omega arith) within in absurd (omega arith)
+                ]
+          ]
+      | inr none ↦ omega arith
+    ]
+
+-- so before the first listed place
+pub used-first : (units : Units) (places : List ℕ) → AreUsedAmong units places → AreUsedBelow units [] (get_or places 0 PLACES)
+used-first units places among =
+    used-skip units [] 0 (get_or places 0 PLACES) (omega arith) (λ place past before. between units places 0 place among (λ k less within. absurd (omega arith)) before) (used-none units)
+
+-- and behind one
+pub used-next : (units : Units) (places : List ℕ) (pairs : List (Place × ℕ)) (i : ℕ) → AreUsedAmong units places → i < length places → AreUsedBelow units pairs (get_or places i 0 + 1) →
+    AreUsedBelow units pairs (get_or places (i + 1) PLACES)
+used-next units places pairs i among inside so_far =
+    used-skip units pairs (get_or places i 0 + 1) (get_or places (i + 1) PLACES) further
+    (λ place past before. between units places (i + 1) place among (λ k less within. elim (cases_eq k i) [
+      | inl same ↦ let here : get_or places k 0 ≡ get_or places i 0 = ap (λ j. get_or places j 0) same in omega arith
+      | inr differs ↦ let rises = among.rising k i 0 (omega arith) inside in omega arith
+    ]) before) so_far
+  where
+    further : get_or places i 0 + 1 ≤ get_or places (i + 1) PLACES
+    further = elim (cases_lt (i + 1) (length places)) [
+      | inl within ↦
+          let rises = among.rising i (i + 1) 0 (omega arith) within in
+          let same = get_or_default places (i + 1) 0 PLACES within in
+          omega arith
+      | inr past ↦
+          let end = get_or_past places (i + 1) PLACES past in
+          let small = among.inside i 0 inside in
+          omega arith
+    ]
+
+-- at the end all places are looked at
+pub used-end : (units : Units) (places : List ℕ) (pairs : List (Place × ℕ)) (i : ℕ) → length places ≤ i → AreUsedBelow units pairs (get_or places i PLACES) → AreUsedBelow units pairs PLACES
+used-end units places pairs i past so_far = subst (λ (n : ℕ). AreUsedBelow units pairs n) (get_or_past places i PLACES past) so_far
 
 -- a place of the pairs has units
 place_used : (pairs : List (Place × ℕ)) (place : Place) → All (λ (pair : Place × ℕ). 1 ≤ pair.1) pairs → Contains (places_in pairs) place → 1 ≤ units_in pairs place.0

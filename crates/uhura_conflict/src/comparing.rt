@@ -1,7 +1,8 @@
 //! Where two tables differ.
 ghost use Rattle.std.specs.Prelude.{◌≡◌, ◌<◌, IsTrue, IsFalse, length, All, slice_index_or, false};
 ghost use Rattle.uhura_net.specs.declared.place.TheConstants.{PLACES};
-ghost use Rattle.uhura_conflict.specs.Marked.{AreMarked, IsUnmarked};
+ghost use Rattle.uhura_conflict.specs.Marked.{AreMarked, IsUnmarked, DifferAmong, AreMarksAmong, AreCleared};
+ghost use Rattle.uhura_net.specs.Table.{IsTable};
 
 use uhura_net::{Edge, EdgeTable, PLACES, Place};
 
@@ -10,6 +11,7 @@ pub(crate) fn mark_changed(old: &EdgeTable, new: &EdgeTable, changed: &mut Vec<b
     requires { length changed.old.items ≡ PLACES }
     ensures marked { AreMarked old.now new.now changed.new.items }
     ensures same { IsFalse result → new.now ≡ old.now }
+    ensures none { IsFalse result → AreCleared changed.new.items }
 {
     let mut any = false;
     for number in 0..PLACES as u32 {
@@ -18,6 +20,47 @@ pub(crate) fn mark_changed(old: &EdgeTable, new: &EdgeTable, changed: &mut Vec<b
         any = any || !same;
     }
     any
+}
+
+/// Marks the places at which the tables differ, which are all among these, and tells whether there are any.
+pub(crate) fn mark_among(
+    old: &EdgeTable,
+    new: &EdgeTable,
+    places: &[u32],
+    changed: &mut Vec<bool>,
+) -> bool
+    requires inside { All (λ place. place < PLACES) places.now }
+    requires table { IsTable old.now }
+    requires differ { DifferAmong old.now new.now places.now }
+    requires cleared { AreCleared changed.old.items }
+    ensures marked { AreMarked old.now new.now changed.new.items }
+    ensures among { AreMarksAmong changed.new.items places.now }
+    ensures places { length new.now ≡ PLACES }
+    ensures same { IsFalse result → new.now ≡ old.now }
+    ensures none { IsFalse result → AreCleared changed.new.items }
+{
+    // By its type the table has all places.
+    let _ = new.get(Place(0));
+    let mut any = false;
+    for number in places {
+        if !is_same(old.get(Place(*number)), new.get(Place(*number))) {
+            changed[*number as usize] = true;
+            any = true;
+        }
+    }
+    any
+}
+
+/// Clears all marks, which stand at these places at most.
+pub(crate) fn unmark(changed: &mut Vec<bool>, places: &[u32])
+    requires inside { All (λ place. place < PLACES) places.now }
+    requires marks { length changed.old.items ≡ PLACES }
+    requires among { AreMarksAmong changed.old.items places.now }
+    ensures { AreCleared changed.new.items }
+{
+    for number in places {
+        changed[*number as usize] = false;
+    }
 }
 
 /// Whether the two edges are one, or neither is there.

@@ -4,10 +4,11 @@ ghost use Rattle.std.specs.List.{All};
 ghost use Rattle.uhura_flow.specs.Flow.{flow_units};
 ghost use Rattle.uhura_net.specs.declared.place.TheConstants.{PLACES};
 ghost use Rattle.uhura_conflict.specs.Learned.{places_in, AreFlowPairs, AreUnitsOf, IsLearned, walk_pairs};
+ghost use Rattle.uhura_conflict.specs.Used.{AreUsedAmong};
 ghost use Rattle.uhura_conflict.specs.Literals.{AreActiveTogether, AreUsedTogether, AreLiteralsOf, Applies};
 
 use crate::literals::{applies, literals_of};
-use crate::used::used_pairs;
+use crate::used::{used_among, used_pairs};
 use std::alloc::{AllocError, Global};
 use std::marker::Model;
 use std::rc::RcSlice;
@@ -54,6 +55,23 @@ impl Conflict {
             AreLiteralsOf plan.now (places_in c.pairs) c.literals) }
     {
         Conflict::of_pairs(plan, used_pairs(alloc, net)?, false)
+    }
+
+    /// The flow's present units above 0, by rising places. The places with units are all among those given, which rise.
+    pub fn flow_among(
+        alloc: Global,
+        plan: &Plan,
+        net: &Flow,
+        places: &[u32],
+    ) -> Result<Conflict, AllocError>
+        requires among { AreUsedAmong (flow_units net.now) places.now }
+        requires together { AreUsedTogether plan.now (flow_units net.now) }
+        ensures flow { IfOk result (λ c. IsFalse c.stuck) }
+        ensures units { IfOk result (λ c. AreUnitsOf (flow_units net.now) c.pairs) }
+        ensures literals { IfOk result (λ c.
+            AreLiteralsOf plan.now (places_in c.pairs) c.literals) }
+    {
+        Conflict::of_pairs(plan, used_among(alloc, net, places)?, false)
     }
 
     /// The firm cycle along these places, each with 1 unit. In some branch all requirements among them are active.

@@ -1,8 +1,9 @@
 //! A store's tables, as they take over a table of edges.
-ghost use Rattle.std.specs.Prelude.{◌≡◌, ◌≢◌, ◌<◌, ◌≤◌, ℕ, IsFalse, IfSome, filter, length};
+ghost use Rattle.std.specs.Prelude.{◌≡◌, ◌≢◌, ◌<◌, ◌≤◌, ℕ, IsFalse, IfSome, All, filter, length};
 ghost use Rattle.slab.specs.Slab.{get};
 ghost use Rattle.uhura_net.specs.declared.place.TheConstants.{PLACES};
-ghost use Rattle.uhura_conflict.specs.Marked.{AreMarked};
+ghost use Rattle.uhura_conflict.specs.Marked.{AreMarked, DifferAmong};
+ghost use Rattle.uhura_net.specs.Table.{IsTable};
 ghost use Rattle.uhura_conflict.specs.Entries.{is_held, IsKeptFor, IsUntouched, RevisesAt};
 
 use crate::comparing::touches;
@@ -43,7 +44,7 @@ fn revise_touched(
     ensures slots { length entries.new.slots ≡ length entries.old.slots }
 {
     if is_touched(entries, key, changed) {
-        revise_at(entries, key, old, new);
+        revise_entry(entries, key, old, new);
     }
 }
 
@@ -59,7 +60,7 @@ fn is_touched(entries: &Slab<Entry>, key: usize, changed: &[bool]) -> bool
 }
 
 /// Gives up the entry under this key or sets its value, if there is one.
-fn revise_at(entries: &mut Slab<Entry>, key: usize, old: &EdgeTable, new: &EdgeTable)
+fn revise_entry(entries: &mut Slab<Entry>, key: usize, old: &EdgeTable, new: &EdgeTable)
     ensures here { RevisesAt entries.old entries.new old.now new.now key }
     ensures others { (other : ℕ) → other ≢ key → get entries.new other ≡ get entries.old other }
     ensures slots { length entries.new.slots ≡ length entries.old.slots }
@@ -91,9 +92,24 @@ pub(crate) fn keep_held(order: &mut Vec<usize>, entries: &Slab<Entry>)
 
 /// Makes the one table the other.
 pub(crate) fn copy_table(to: &mut EdgeTable, from: &EdgeTable)
-    ensures { to.new ≡ from.now }
+    ensures copied { to.new ≡ from.now }
+    ensures sound { IsTable from.now }
 {
     for number in 0..PLACES as u32 {
         to.put(Place(number), from.get(Place(number)));
+    }
+}
+
+/// Makes the one table the other, where they differ at these places at most.
+pub(crate) fn copy_among(to: &mut EdgeTable, from: &EdgeTable, places: &[u32])
+    requires inside { All (λ place. place < PLACES) places.now }
+    requires table { IsTable to.old }
+    requires places { length from.now ≡ PLACES }
+    requires differ { DifferAmong to.old from.now places.now }
+    ensures copied { to.new ≡ from.now }
+    ensures sound { IsTable from.now }
+{
+    for number in places {
+        to.put(Place(*number), from.get(Place(*number)));
     }
 }

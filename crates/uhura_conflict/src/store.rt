@@ -1,14 +1,16 @@
 //! What was learned and kept.
-ghost use Rattle.std.specs.Prelude.{◌≡◌, ℕ, ◌≤◌, find, IfOk, IfErr, OnErr};
+ghost use Rattle.std.specs.Prelude.{◌≡◌, ℕ, ◌≤◌, ◌<◌, All, find, IfOk, IfErr, OnErr};
 ghost use Rattle.uhura_net.specs.Circulation.{edges_of};
 ghost use Rattle.uhura_conflict.specs.Learned.{IsValid};
 ghost use Rattle.uhura_conflict.specs.Literals.{Applies};
+ghost use Rattle.uhura_conflict.specs.Marked.{DifferAmong};
+ghost use Rattle.uhura_net.specs.declared.place.TheConstants.{PLACES};
 ghost use Rattle.uhura_conflict.specs.Store.{conflict_at, IsStore, empty_store, IsBest, ExceedsBest, Adds, Revises, Trims};
 
-use crate::comparing::mark_changed;
+use crate::comparing::{mark_among, mark_changed, unmark};
 use crate::entry::Entry;
 use crate::looking::best_in;
-use crate::revising::{copy_table, keep_held, revise_all};
+use crate::revising::{copy_among, copy_table, keep_held, revise_all};
 use crate::summaries::Summaries;
 use crate::trimming::{give_up, given_up};
 use crate::worth::flow_worth;
@@ -19,8 +21,8 @@ use std::marker::Model;
 use uhura_choice::{Branch, Prefix};
 use uhura_net::{EdgeTable, PLACES};
 
-/// Conflicts under keys, each valid for the table last handed to `revise`, and their keys in the order in which they
-/// were added.
+/// Conflicts under keys, each valid for the table last taken over, and their keys in the order in which they were
+/// added. The marks are room for a change of tables, and stand during one alone.
 #[derive(Drop)]
 pub struct Store {
     entries: Slab<Entry>,
@@ -35,15 +37,14 @@ impl Model for Store {
 
     ghost Value = { Stored };
 
-    ghost use Rattle.std.specs.Prelude.{◌≡◌, length};
-    ghost use Rattle.uhura_net.specs.declared.place.TheConstants.{PLACES};
     ghost use Rattle.uhura_conflict.specs.Entries.{shown_as, IsHeldStore};
+    ghost use Rattle.uhura_conflict.specs.Marked.{IsAtRest};
     ghost use Rattle.uhura_conflict.specs.Summaries.{AreSummed};
 
     ghost view = { λ s. shown_as s.entries s.order.items s.table };
 
     ghost invariant = { λ s.
-        IsHeldStore s.entries s.order.items s.table × (length s.changed.items ≡ PLACES)
+        IsHeldStore s.entries s.order.items s.table × IsAtRest s.table s.changed.items
         × AreSummed s.summaries s.entries };
 }
 
@@ -120,6 +121,25 @@ impl Store {
         self.summaries.renew(&self.entries);
         keep_held(&mut self.order, &self.entries);
         copy_table(&mut self.table, table);
+        self.changed.fill(false);
+    }
+
+    /// Takes over, as `revise` does, a table that differs from the last one at these places at most. It looks at no other
+    /// places, and at what was learned.
+    pub fn revise_at(&mut self, table: &EdgeTable, places: &[u32])
+        requires inside { All (λ place. place < PLACES) places.now }
+        requires differ { DifferAmong self.old.table table.now places.now }
+        ensures revised { Revises self.old self.new table.now }
+        ensures sound { IsStore self.new }
+    {
+        if !mark_among(&self.table, table, places, &mut self.changed) {
+            return;
+        }
+        revise_all(&mut self.entries, &self.table, table, &self.changed);
+        self.summaries.renew(&self.entries);
+        keep_held(&mut self.order, &self.entries);
+        copy_among(&mut self.table, table, places);
+        unmark(&mut self.changed, places);
     }
 
     /// Gives up the fewest conflicts, the earliest added first, that leave at most so many pairs of place and units.

@@ -1,6 +1,6 @@
 -- Edges that are active in a branch: the guards of their requirements hold there.
 use Rattle.std.proofs.Common.{◌≡◌, ℕ, ◌<◌, ◌≤◌, Bool, true, false, List, get_or, Option, Some, None, refl, sym, ap, subst, ◌∙◌, arith}
-use Rattle.std.specs.Prelude.{All, Contains, IsSome, unwrap_or, if◌then◌else◌}
+use Rattle.std.specs.Prelude.{All, Contains, IsSome, is_some, unwrap_or, if◌then◌else◌}
 use Rattle.std.specs.Option.{option_map_or}
 use Rattle.std.proofs.lemmas.List.Elements.{All-contains, Contains-get_or}
 use Rattle.uhura_plan.specs.Lists.{Lists}
@@ -23,6 +23,7 @@ use Rattle.uhura_worst.specs.Edges.{item_of, is_active_item, is_active_edge}
 use Rattle.uhura_worst.proofs.FirstItems.{requirement_in-member}
 use Rattle.uhura_dual.specs.Settled.{key_at}
 use Rattle.uhura_conflict.specs.Literals.{slot_of_item, IsOfSlot, AreActiveTogether, AreUsedTogether, AreActiveAt}
+use Rattle.uhura_conflict.specs.Used.{AreUsedAmong}
 use Rattle.uhura_search.specs.Moving.{AreAmong, AreListed, active_edges}
 use Rattle.uhura_search.proofs.FlowBounds.{key-there}
 use Rattle.uhura_search.proofs.Shown.{slot-item}
@@ -107,3 +108,13 @@ module _ (table : List (Option Edge)) (plan : Lists) (branch : List Pick) (sound
 
     pub used-together : IsBranch plan.choices branch → AreUsedTogether plan units
     used-together is_branch = record { branch = branch; is_branch = is_branch; active = λ place r inside some of_slot in_plan. used-holds place r some of_slot in_plan }
+
+    -- each of these places is listed
+    pub used-among : (places : List ℕ) → AreListed places table → AreUsedAmong units places
+    used-among places listed = record {
+      inside = listed.inside;
+      rising = listed.rising;
+      used = λ place inside some.
+          let edge = used-there edges units place circulation some in
+          listed.each place (ap is_some (among-table table plan branch place edge.0 (among place edge.0 edge.1)));
+    }

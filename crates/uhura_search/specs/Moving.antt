@@ -1,5 +1,5 @@
 -- What a move from branch to branch leaves of a flow.
-use Rattle.std.specs.Prelude.{IfSome, IsSome, All, Contains, ◌≡◌, ℕ, ◌+◌, ◌-◌, ◌^◌, ◌<◌, ◌≤◌, min, Bool, true, false, if◌then◌else◌, List, length, Option, None, Some, slice_index_or, slice_set}
+use Rattle.std.specs.Prelude.{IfSome, IsSome, All, AllPairs, Contains, ◌≡◌, ℕ, ◌+◌, ◌-◌, ◌^◌, ◌<◌, ◌≤◌, min, Bool, true, false, if◌then◌else◌, List, length, Option, None, Some, slice_index_or, slice_set}
 use Rattle.uhura_plan.specs.declared.key.Item.{Item}
 use Rattle.uhura_plan.specs.declared.key.Item.TheVariants as item
 use Rattle.uhura_plan.specs.Lists.{Lists}
@@ -50,9 +50,10 @@ is_loose_at place = is_loose_key (key_at place)
 abbrev pub AreAmong : Edges → Edges → Type 0
 AreAmong few all = (place : ℕ) (edge : Edge) → few place ≡ Some edge → all place ≡ Some edge
 
--- each place that has an edge in the table is listed
+-- each place that has an edge in the table is listed, and the places rise
 pub record AreListed (places : List ℕ) (table : List (Option Edge)) : Type 0 where
   pub inside : All (λ place. place < PLACES) places
+  pub rising : AllPairs ◌<◌ places
   pub each : (place : ℕ) → IsSome (edges_of table place) → Contains places place
 
 -- an edge at this place is there among the others too

@@ -81,6 +81,7 @@ fn add_flow(
 ) -> Result<(), AllocError>
     requires is_branch { IsBranch plan.now.choices branch.now }
     requires table { learning.old.store.table ≡ learning.old.table }
+    requires listed { AreListed learning.old.places.items learning.old.table }
     requires among { AreAmong (flow_edges learning.old.flow)
         (active_edges learning.old.table plan.now branch.now) }
     requires more { IsWorthMore learning.old.store branch.now (net_value learning.old.flow.net) }
@@ -91,7 +92,7 @@ fn add_flow(
 {
     // By their types the plan is sound, and the units are a circulation.
     let _ = (plan.choices(), learning.flow.value());
-    let conflict = Conflict::flow(alloc, plan, &learning.flow)?;
+    let conflict = Conflict::flow_among(alloc, plan, &learning.flow, learning.places.as_slice())?;
     add(learning, conflict, plan, branch)
 }
 
@@ -118,6 +119,7 @@ pub(crate) fn note_flow(
 ) -> Result<(), AllocError>
     requires is_branch { IsBranch plan.now.choices branch.now }
     requires table { learning.old.store.table ≡ learning.old.table }
+    requires listed { AreListed learning.old.places.items learning.old.table }
     requires among { AreAmong (flow_edges learning.old.flow)
         (active_edges learning.old.table plan.now branch.now) }
     requires counts { AreCounts learning.old }

@@ -1,7 +1,7 @@
 use Rattle.std.proofs.Common.{◌≡◌, ◌+◌, Bool, not, ◌||◌, set, ap, sym, subst, ◌∙◌}
 use Rattle.std.specs.Prelude.{IfSome}
 use Rattle.uhura_net.specs.Table.{IsEdgeFor}
-use Rattle.uhura_conflict.proofs.Differing.{AreCompared, compared-none, compared-more, compared-all, compared-same}
+use Rattle.uhura_conflict.proofs.Differing.{AreCompared, compared-none, compared-more, compared-all, compared-same, compared-cleared}
 use Rattle.uhura_conflict.proofs.comparing.mark_changed.Goals as goal
 use Rattle.uhura_conflict.proofs.comparing.mark_changed.Goals.{then-any, else-any}
 
@@ -29,4 +29,5 @@ pub returns : goal.returns
 returns c = record {
   marked = compared-all c.args.old.now c.args.new.now c.loop-number.changed.items c.loop-number.any c.loop-number.number c.loop-number-test.false c.loop-number.invariant;
   same = λ nothing. compared-same c.args.old.now c.args.new.now c.loop-number.changed.items c.loop-number.any c.loop-number.number c.loop-number-test.false c.loop-number.invariant nothing;
+  none = λ nothing. compared-cleared c.args.old.now c.args.new.now c.loop-number.changed.items c.loop-number.any c.loop-number.number c.loop-number-test.false c.loop-number.invariant nothing;
 }

@@ -1,6 +1,10 @@
-use Rattle.std.proofs.Common.{◌≡◌, ◌<◌, length, get_or, set, None, inl, inr, ap, sym, subst, ◌∙◌, arith}
-use Rattle.std.proofs.lemmas.Bool.{cases_eq}
-use Rattle.std.proofs.lemmas.List.{get_or-set_same, get_or-set_other, get_or_default, length-set, same_lists}
+use Rattle.std.proofs.Common.{◌≡◌, ◌<◌, length, get_or, set, Option, None, inl, inr, ap, sym, subst, ◌∙◌, arith}
+use Rattle.std.specs.Prelude.{IfSome}
+use Rattle.std.proofs.lemmas.Bool.{cases_eq, cases_lt}
+use Rattle.std.proofs.lemmas.List.{get_or-set_same, get_or-set_other, get_or_default, get_or_past, length-set, same_lists}
+use Rattle.uhura_net.specs.declared.edge.Edge.{Edge}
+use Rattle.uhura_net.specs.declared.place.TheConstants.{PLACES}
+use Rattle.uhura_net.specs.Table.{IsEdgeFor}
 use Rattle.uhura_conflict.proofs.revising.copy_table.Goals as goal
 
 pub loop-number-preserved : goal.loop-number-preserved
@@ -17,13 +21,27 @@ loop-number-preserved c =
             | inr differs ↦ get_or-set_other now at place edge None differs ∙ c.loop-number.invariant.1 place (omega arith)
           ],
       λ some. c.get.ensures.places,
+      λ place below. elim (cases_eq place at) [
+        | inl same ↦
+            subst (λ n. IfSome (get_or c.args.from.now n None) (IsEdgeFor n)) (sym same)
+            (subst (λ (found : Option Edge). IfSome found (IsEdgeFor at)) c.get.ensures.edge c.get.ensures.sound)
+        | inr differs ↦ c.loop-number.invariant.3 place (omega arith)
+      ],
     )
 
 pub returns : goal.returns
 returns c =
-    let same : length c.loop-number.to ≡ length c.args.from.now = c.loop-number.invariant.0 (omega arith) in
-    let many = c.loop-number.invariant.2 (omega arith) in
-    same_lists c.loop-number.to c.args.from.now same
-    (λ k d below.
-    get_or_default c.loop-number.to k d None below
-    ∙ (c.loop-number.invariant.1 k (omega arith) ∙ get_or_default c.args.from.now k None d (omega arith)))
+    let from = c.args.from.now in
+    let same : length c.loop-number.to ≡ length from = c.loop-number.invariant.0 (omega arith) in
+    let many : length from ≡ PLACES = c.loop-number.invariant.2 (omega arith) in
+    record {
+      copied = same_lists c.loop-number.to from same
+          (λ k d below. get_or_default c.loop-number.to k d None below ∙ (c.loop-number.invariant.1 k (omega arith) ∙ get_or_default from k None d (omega arith)));
+      sound = record {
+        places = many;
+        each = λ place. elim (cases_lt place PLACES) [
+          | inl below ↦ c.loop-number.invariant.3 place (omega arith)
+          | inr behind ↦ subst (λ (found : Option Edge). IfSome found (IsEdgeFor place)) (sym (get_or_past from place None (omega arith))) tt
+        ];
+      };
+    }

@@ -6,15 +6,17 @@ use Rattle.uhura_net.specs.Net.{net_value}
 use Rattle.uhura_flow.specs.Flow.{flow_edges, flow_units}
 use Rattle.uhura_conflict.specs.Learned.{IsValid, flow_value}
 use Rattle.uhura_conflict.specs.Store.{value_at}
-use Rattle.uhura_search.proofs.Active.{used-together}
+use Rattle.uhura_search.proofs.Active.{used-among, used-together}
 use Rattle.uhura_search.proofs.Valid.{flow-valid, flow-worth, flow-applies, net-value}
 use Rattle.uhura_search.proofs.Values.{below-exceeds}
 use Rattle.uhura_search.proofs.adding.add_flow.Goals as goal
 
-pub flow-requires : goal.flow-requires
-flow-requires c =
+pub flow_among-requires : goal.flow_among-requires
+flow_among-requires c =
     let learning = c.args.learning.now in
     record {
+      among = rw c.as_slice.ensures.value (used-among learning.table c.args.plan.now c.args.branch.now c.choices.ensures.sound (flow_edges learning.flow) c.requires.among (flow_units learning.flow)
+          c.value.ensures.sound.sound.circulates learning.places.items c.requires.listed);
       together = used-together learning.table c.args.plan.now c.args.branch.now c.choices.ensures.sound (flow_edges learning.flow) c.requires.among (flow_units learning.flow) c.value.ensures.sound.sound.circulates c.requires.is_branch;
     }
 

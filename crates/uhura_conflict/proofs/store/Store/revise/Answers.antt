@@ -1,5 +1,8 @@
-use Rattle.std.proofs.Common.{List, Option, sym, subst}
+use Rattle.std.proofs.Common.{◌≡◌, ℕ, false, List, Option, replicate, ap, sym, subst, ◌∙◌, arith}
+use Rattle.std.specs.Prelude.{vec_len}
+use Rattle.uhura_net.specs.declared.place.TheConstants.{PLACES}
 use Rattle.uhura_net.specs.declared.edge.Edge.{Edge}
+use Rattle.uhura_net.specs.Table.{IsTable}
 use Rattle.uhura_conflict.specs.Store.{Stored, IsStore, Revises}
 use Rattle.uhura_conflict.specs.Entries.{shown_as, IsHeldStore}
 use Rattle.uhura_conflict.proofs.Keeping.{kept_for, unchanged-revises, revises, held-revised}
@@ -25,24 +28,28 @@ renew-requires c = reached-revised c.self.inside.summaries c.self.inside.entries
 
 pub invariant_of-self-2 : goal.invariant_of-self-2
 invariant_of-self-2 c =
-    let inside = c.self.inside in (
-      subst (λ (table : List (Option Edge)). IsHeldStore c.revise_all.new.entries c.keep_held.new.order.items table) (sym c.copy_table.ensures)
+    let inside = c.self.inside in
+    let marks : vec_len c.mark_changed.new.changed ≡ PLACES = omega (arith, c.mark_changed.new.changed.ok, c.mark_changed.ensures.marked.places) in (
+      subst (λ (table : List (Option Edge)). IsHeldStore c.revise_all.new.entries c.keep_held.new.order.items table) (sym c.copy_table.ensures.copied)
           (held-revised inside.entries c.revise_all.new.entries inside.order.items c.keep_held.new.order.items inside.table c.args.table.now c.revise_all.ensures c.keep_held.ensures
           c.self.invariant.0.sound),
-      c.mark_changed.ensures.marked.places,
+      record {
+        sound = subst IsTable (sym c.copy_table.ensures.copied) c.copy_table.ensures.sound;
+        cleared = c.fill.ensures.items (λ mark same. same) ∙ ap (λ (n : ℕ). replicate n false) marks;
+      },
       c.renew.ensures,
     )
 
 pub returns-clause-revised : goal.returns-clause-revised
 returns-clause-revised c =
     let inside = c.self.inside in
-    subst (λ (table : List (Option Edge)). Revises c.args.self.now (shown_as c.revise_all.new.entries c.keep_held.new.order.items table) c.args.table.now) (sym c.copy_table.ensures)
+    subst (λ (table : List (Option Edge)). Revises c.args.self.now (shown_as c.revise_all.new.entries c.keep_held.new.order.items table) c.args.table.now) (sym c.copy_table.ensures.copied)
     (subst (λ (store : Stored). Revises store (shown_as c.revise_all.new.entries c.keep_held.new.order.items c.args.table.now) c.args.table.now) c.self.view_is
     (revises inside.entries c.revise_all.new.entries inside.order.items c.keep_held.new.order.items inside.table c.args.table.now c.revise_all.ensures c.keep_held.ensures))
 
 pub returns-clause-sound : goal.returns-clause-sound
 returns-clause-sound c =
     let inside = c.self.inside in
-    subst (λ (table : List (Option Edge)). IsStore (shown_as c.revise_all.new.entries c.keep_held.new.order.items table)) (sym c.copy_table.ensures)
+    subst (λ (table : List (Option Edge)). IsStore (shown_as c.revise_all.new.entries c.keep_held.new.order.items table)) (sym c.copy_table.ensures.copied)
     (held-revised inside.entries c.revise_all.new.entries inside.order.items c.keep_held.new.order.items inside.table c.args.table.now c.revise_all.ensures c.keep_held.ensures
     c.self.invariant.0.sound).sound
