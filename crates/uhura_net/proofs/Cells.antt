@@ -1,8 +1,9 @@
 -- How edges in cells change.
-use Rattle.std.proofs.Common.{◌≡◌, ℕ, ◌+◌, ◌*◌, ◌<◌, ◌≤◌, true, false, cond, ltb, List, [], ◌∷◌, ◌++◌, length, map, get_or, set, replicate, count_by, Option, None, Some, refl, sym, ap, subst, ◌∙◌, inl, inr, arith}
+use Rattle.std.proofs.Common.{◌≡◌, ℕ, zero, suc, ◌+◌, ◌<◌, ◌≤◌, false, cond, ltb, List, [], ◌∷◌, ◌++◌, length, map, get_or, set, replicate, count_by, Option, None, Some, is_some, true≢false, refl, sym, ap, subst, ◌∙◌, inl, inr, arith}
 use Rattle.std.proofs.lemmas.Bool.{cases_eq, lt-ltb}
 use Rattle.std.proofs.lemmas.List.{length-set, length-map, length-replicate, length_push, map-set, set-get_or, ext_get_or, get_or_default, get_or-map, get_or-set_same, get_or-set_other, get_or_append_left, get_or_push}
-use Rattle.std.proofs.lemmas.List.Sums.{sum_by-set, sum_by-replicate, count_by-le-length}
+use Rattle.std.proofs.lemmas.List.Folds.{sum_by-replicate}
+use Rattle.std.proofs.lemmas.List.Sums.{sum_by-set, count_by-le-length}
 use Rattle.uhura_plan.proofs.Slots.{get_or-replicate_default}
 use Rattle.uhura_net.specs.declared.place.TheConstants.{PLACES}
 use Rattle.uhura_net.specs.declared.edge.Edge.{Edge}
@@ -35,36 +36,44 @@ edges_set before numbers old cells place edge same inside here others =
       ])
 
 -- what is left where an edge, or none, is put at a place
-pub record IsPutAt (before : List ℕ) (old : List (Option Edge)) (place : ℕ) (edge : Option Edge) (numbers : List ℕ) (cells : List (Option Edge)) : Type 0 where
+pub record IsPutAt (old : List (Option Edge)) (place : ℕ) (edge : Option Edge) (numbers : List ℕ) (cells : List (Option Edge)) : Type 0 where
   pub sound : IsSparse numbers cells
-  pub edges : edges_in numbers cells ≡ set (edges_in before old) place edge
+  pub edges : edges_in numbers cells ≡ set old place edge
+
+-- the number of a place's cell, as it is read
+number_read : (numbers : List ℕ) (cells : List (Option Edge)) (place number : ℕ) → IsSparse numbers cells → place < PLACES → number ≡ get_or numbers place number →
+    cell_of numbers place ≡ number
+number_read numbers cells place number sparse inside read = get_or_default numbers place 0 number (omega (arith, sparse.places)) ∙ sym read
 
 -- into the place's own cell
-pub IsPutAt-over : (numbers : List ℕ) (cells : List (Option Edge)) (place : ℕ) (edge : Option Edge) → IsSparse numbers cells → place < PLACES → 1 ≤ cell_of numbers place →
-    IsPutAt numbers cells place edge numbers (set cells (cell_of numbers place) edge)
-IsPutAt-over numbers cells place edge sparse inside celled =
-    let cell : ℕ = cell_of numbers place in
-    let long : length (set cells cell edge) ≡ length cells = length-set cells cell edge in
+pub IsPutAt-over : (numbers : List ℕ) (cells old : List (Option Edge)) (place number : ℕ) (edge : Option Edge) → edges_in numbers cells ≡ old → IsSparse numbers cells →
+    place < PLACES → number ≡ get_or numbers place number → 1 ≤ number → IsPutAt old place edge numbers (set cells number edge)
+IsPutAt-over numbers cells old place number edge shown sparse inside read celled =
+    let is : cell_of numbers place ≡ number = number_read numbers cells place number sparse inside read in
+    let long : length (set cells number edge) ≡ length cells = length-set cells number edge in
     record {
       sound = record {
         places = sparse.places;
-        empty = get_or-set_other cells cell 0 edge None (λ same. let no : ⊥ = omega arith in no) ∙ sparse.empty;
+        empty = get_or-set_other cells number 0 edge None (λ same. let no : ⊥ = omega arith in no) ∙ sparse.empty;
         inside = λ other. omega (arith, long, sparse.inside other);
         own = sparse.own;
         count = long ∙ sparse.count;
       };
-      edges = edges_set numbers numbers cells (set cells cell edge) place edge refl (omega (arith, sparse.places))
-          (get_or-set_same cells cell edge None (sparse.inside place))
-          (λ other below apart. get_or-set_other cells cell (cell_of numbers other) edge None (λ same. apart (sparse.own place other celled same)));
+      edges = edges_set numbers numbers cells (set cells number edge) place edge refl (omega (arith, sparse.places))
+          (ap (edge_in (set cells number edge)) is ∙ get_or-set_same cells number edge None (omega (arith, sparse.inside place, is)))
+          (λ other below apart. get_or-set_other cells number (cell_of numbers other) edge None (λ same. apart (sparse.own place other (omega (arith, is)) (same ∙ sym is))))
+          ∙ ap (λ es. set es place edge) shown;
     }
 
--- none, where the place has no cell
-pub IsPutAt-none : (numbers : List ℕ) (cells : List (Option Edge)) (place : ℕ) → IsSparse numbers cells → place < PLACES → cell_of numbers place ≡ 0 →
-    IsPutAt numbers cells place None numbers cells
-IsPutAt-none numbers cells place sparse inside none = record {
-  sound = sparse;
-  edges = edges_set numbers numbers cells cells place None refl (omega (arith, sparse.places)) (ap (edge_in cells) none ∙ sparse.empty) (λ other below apart. refl);
-}
+-- none, where the place has no cell of its own
+pub put_none : (numbers : List ℕ) (cells old : List (Option Edge)) (place number : ℕ) (edge : Option Edge) → edges_in numbers cells ≡ old → IsSparse numbers cells →
+    place < PLACES → number ≡ get_or numbers place number → number ≡ 0 → is_some edge ≡ false → old ≡ set old place edge
+put_none numbers cells old place number None shown sparse inside read blank none =
+    let is : cell_of numbers place ≡ 0 = number_read numbers cells place number sparse inside read ∙ blank in
+    sym shown
+    ∙ edges_set numbers numbers cells cells place None refl (omega (arith, sparse.places)) (ap (edge_in cells) is ∙ sparse.empty) (λ other below apart. refl)
+    ∙ ap (λ es. set es place None) shown
+put_none numbers cells old place number (Some edge) shown sparse inside read blank none = absurd (true≢false none)
 
 -- where a place gets a cell there is one more that has one
 count_more : (numbers : List ℕ) (place cell : ℕ) → place < length numbers → cell_of numbers place ≡ 0 → 1 ≤ cell →
@@ -77,16 +86,18 @@ count_more numbers place cell inside none some =
     omega (arith, moved, before, after)
 
 -- so not all others have all cells yet
-pub room_left : (numbers : List ℕ) (cells : List (Option Edge)) (place : ℕ) → IsSparse numbers cells → place < PLACES → cell_of numbers place ≡ 0 → length cells ≤ PLACES
-room_left numbers cells place sparse inside none =
+pub room_left : (numbers : List ℕ) (cells : List (Option Edge)) (place number : ℕ) → IsSparse numbers cells → place < PLACES → number ≡ get_or numbers place number →
+    number ≡ 0 → length cells ≤ PLACES
+room_left numbers cells place number sparse inside read blank =
+    let none : cell_of numbers place ≡ 0 = number_read numbers cells place number sparse inside read ∙ blank in
     let more = count_more numbers place 1 (omega (arith, sparse.places)) none (omega arith) in
     omega (arith, more, count_by-le-length (ltb 0) (set numbers place 1), length-set numbers place 1, sparse.places, sparse.count)
 
 -- into a new cell
-pub IsPutAt-new : (numbers : List ℕ) (cells : List (Option Edge)) (place : ℕ) (edge : Option Edge) → IsSparse numbers cells → place < PLACES → cell_of numbers place ≡ 0 →
-    IsPutAt numbers cells place edge (set numbers place (length cells)) (cells ++ edge ∷ [])
-IsPutAt-new numbers cells place edge sparse inside none =
-    let new : ℕ = length cells in
+pub IsPutAt-new : (numbers : List ℕ) (cells old : List (Option Edge)) (place number new : ℕ) (edge : Option Edge) → edges_in numbers cells ≡ old → IsSparse numbers cells →
+    place < PLACES → number ≡ get_or numbers place number → number ≡ 0 → new ≡ length cells → IsPutAt old place edge (set numbers place new) (cells ++ edge ∷ [])
+IsPutAt-new numbers cells old place number new edge shown sparse inside read blank last =
+    let none : cell_of numbers place ≡ 0 = number_read numbers cells place number sparse inside read ∙ blank in
     let after : List ℕ = set numbers place new in
     let some : 1 ≤ new = omega (arith, sparse.inside place) in
     let within : place < length numbers = omega (arith, sparse.places) in
@@ -95,7 +106,7 @@ IsPutAt-new numbers cells place edge sparse inside none =
     record {
       sound = record {
         places = length-set numbers place new ∙ sparse.places;
-        empty = get_or_append_left cells (edge ∷ []) None 0 some ∙ sparse.empty;
+        empty = get_or_append_left cells (edge ∷ []) None 0 (omega (arith, sparse.inside place)) ∙ sparse.empty;
         inside = λ other.
             elim (cases_eq other place) [
               | inl is ↦ omega (arith, ap (cell_of after) is, here, length_push cells edge)
@@ -117,8 +128,9 @@ IsPutAt-new numbers cells place edge sparse inside none =
         count = omega (arith, length_push cells edge, sparse.count, count_more numbers place new within none some);
       };
       edges = edges_set numbers after cells (cells ++ edge ∷ []) place edge (length-set numbers place new) within
-          (ap (edge_in (cells ++ edge ∷ [])) here ∙ get_or_push cells edge None new refl)
-          (λ other below apart. ap (edge_in (cells ++ edge ∷ [])) (there other apart) ∙ get_or_append_left cells (edge ∷ []) None (cell_of numbers other) (sparse.inside other));
+          (ap (edge_in (cells ++ edge ∷ [])) here ∙ get_or_push cells edge None new (sym last))
+          (λ other below apart. ap (edge_in (cells ++ edge ∷ [])) (there other apart) ∙ get_or_append_left cells (edge ∷ []) None (cell_of numbers other) (sparse.inside other))
+          ∙ ap (λ es. set es place edge) shown;
     }
 
 -- cells that are new
