@@ -1,5 +1,6 @@
 //! Edges by their places.
 ghost use Rattle.std.specs.Prelude.{◌≡◌, ◌<◌, Option, None, IfOk, IfSome, length, replicate, slice_index_or, slice_set};
+ghost use Rattle.uhura_net.specs.declared.place.TheConstants.{PLACES};
 ghost use Rattle.uhura_net.specs.Table.{IsEdgeFor};
 
 use crate::sparse::SparseEdges;

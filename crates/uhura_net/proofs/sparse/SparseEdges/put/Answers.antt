@@ -1,6 +1,4 @@
-use Rattle.std.proofs.Common.{◌≡◌, ◌∙◌, Option, None, ap, sym, arith}
-use Rattle.uhura_net.specs.declared.edge.Edge.{Edge}
-use Rattle.uhura_net.specs.Sparse.{edges_in}
+use Rattle.std.proofs.Common.{◌∙◌, sym, arith}
 use Rattle.uhura_net.proofs.Cells.{IsPutAt-over, put_none, IsPutAt-new, room_left}
 use Rattle.uhura_net.proofs.sparse.SparseEdges.put.Goals as goal
 
