@@ -25,15 +25,15 @@ edges_set before numbers old cells place edge same inside here others =
     ext_get_or None (edges_in numbers cells) (set (edges_in before old) place edge)
     (omega (arith, length-set (edges_in before old) place edge))
     (λ other below.
-      elim (cases_eq other place) [
-        | inl is ↦
-            let holds : ℕ → Type 0 = λ p. get_or (edges_in numbers cells) p None ≡ get_or (set (edges_in before old) place edge) p None in
-            subst holds (sym is)
-            (edges_in_at numbers cells place (omega arith) ∙ here ∙ sym (get_or-set_same (edges_in before old) place edge None (omega arith)))
-        | inr apart ↦
-            edges_in_at numbers cells other (omega arith) ∙ others other (omega arith) apart ∙ sym (edges_in_at before old other (omega arith))
-            ∙ sym (get_or-set_other (edges_in before old) place other edge None apart)
-      ])
+    elim (cases_eq other place) [
+      | inl is ↦
+          let holds : ℕ → Type 0 = λ p. get_or (edges_in numbers cells) p None ≡ get_or (set (edges_in before old) place edge) p None in
+          subst holds (sym is)
+          (edges_in_at numbers cells place (omega arith) ∙ here ∙ sym (get_or-set_same (edges_in before old) place edge None (omega arith)))
+      | inr apart ↦
+          edges_in_at numbers cells other (omega arith) ∙ others other (omega arith) apart ∙ sym (edges_in_at before old other (omega arith))
+          ∙ sym (get_or-set_other (edges_in before old) place other edge None apart)
+    ])
 
 -- what is left where an edge, or none, is put at a place
 pub record IsPutAt (old : List (Option Edge)) (place : ℕ) (edge : Option Edge) (numbers : List ℕ) (cells : List (Option Edge)) : Type 0 where

@@ -1,4 +1,4 @@
-use Rattle.std.proofs.Common.{◌∙◌, List, [], sym, subst, arith}
+use Rattle.std.proofs.Common.{◌+◌, ◌∙◌, List, refl, sym, subst, arith}
 use Rattle.uhura_net.specs.Edges.{Edges, chosen_edges}
 use Rattle.uhura_cycle.specs.declared.step.Step.{Step}
 use Rattle.uhura_cycle.proofs.Gathered.{IsGatheredSoFar, IsGatheredSoFar-start, IsGatheredSoFar-edge, IsGatheredSoFar-none}
@@ -13,7 +13,7 @@ pub loop-number-init : goal.loop-number-init
 loop-number-init c =
     let edges : Edges = chosen_edges c.args.table.now c.args.chosen.now in
     let so_far : List Step → Type 0 = λ steps. IsGatheredSoFar edges 0 steps in
-    (subst so_far (sym c.clear.ensures.items) (IsGatheredSoFar-start edges), c.clear.ensures.capacity)
+    (subst so_far (sym c.clear.ensures.items) (IsGatheredSoFar-start edges), refl)
 
 pub loop-number-preserved : goal.loop-number-preserved
 loop-number-preserved c =
@@ -22,10 +22,9 @@ loop-number-preserved c =
     elim c.match-chosen_edge.branch [
       | in-Some w ↦
           let gathered : List Step → Type 0 = λ steps. IsGatheredSoFar edges (so_far.number + 1) steps in
-          rw w.steps-is
-          (
+          rw w.steps-is (
             subst gathered (sym w.push_reserved.ensures.items)
-            (IsGatheredSoFar-edge edges so_far.number so_far.steps.items w.in-Some.edge (sym w.in-Some.ensures.edge) w.in-Some.ensures.sound so_far.invariant.0),
+                (IsGatheredSoFar-edge edges so_far.number so_far.steps.items w.in-Some.edge (sym w.in-Some.ensures.edge) w.in-Some.ensures.sound so_far.invariant.0),
             w.push_reserved.ensures.capacity ∙ so_far.invariant.1,
           )
       | in_default w ↦
