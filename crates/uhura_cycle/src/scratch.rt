@@ -7,8 +7,8 @@ use crate::step::Step;
 use std::alloc::{AllocError, Global};
 use uhura_net::{NODES, PLACES, Place};
 
-/// Room for the edges that are followed, of which only what they need is touched, and for each node its time, the step that lowered it last and where a trace
-/// came by it. Only `new` takes memory.
+/// Room for the edges that are followed, of which only what they need is touched, and for each node its time, the step
+/// that lowered it last and where a trace came by it. Only `new` takes memory.
 #[derive(Debug, Drop)]
 pub struct Scratch {
     pub(crate) steps: Vec<Step>,
