@@ -13,7 +13,6 @@ pub mod Guarded
 pub mod Holding
 pub mod Learns
 pub mod Leaving
-pub mod Listed
 pub mod Marking
 pub mod Prefixed
 pub mod Putting

@@ -19,6 +19,8 @@ mod leaf;
 mod learning;
 pub mod moving;
 mod outcome;
+mod places;
+mod refilling;
 mod searcher;
 mod shut;
 mod solving;
