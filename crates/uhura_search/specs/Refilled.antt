@@ -67,7 +67,12 @@ IsRefilledBy tables plan requirements durations table = (key : EdgeKey) → HasP
     IsToCome plan requirements durations (item_of key)
     ⊎ (entry_at table key ≡ edge_among tables plan key (item_of key))
 
--- places were listed, so that the tables have the same edge at each place that isn't
+-- the tables have the same edge at each place but these
+abbrev pub AreSameBut : List (Option Edge) → List (Option Edge) → List ℕ → Type 0
+AreSameBut old new places =
+    (place : ℕ) → (Contains places place → ⊥) → edges_of new place ≡ edges_of old place
+
+-- places were listed, so that the tables are the same but for those that are
 pub record ListsChanges (old new : List (Option Edge)) (before after : List ℕ) : Type 0 where
   pub kept : (place : ℕ) → Contains before place → Contains after place
-  pub same : (place : ℕ) → (Contains after place → ⊥) → edges_of new place ≡ edges_of old place
+  pub same : AreSameBut old new after

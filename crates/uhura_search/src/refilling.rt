@@ -1,18 +1,16 @@
 //! The table of a plan that changed, filled anew by its items.
 ghost use Rattle.std.specs.Prelude.{◌≡◌, ◌<◌, IsTrue, IsFalse, None, IfSome, if◌then◌else◌, false, length, replicate};
 ghost use Rattle.uhura_plan.specs.declared.key.Item.TheVariants as item;
-ghost use Rattle.uhura_plan.specs.declared.limits.TheConstants.{REQUIREMENTS};
+ghost use Rattle.uhura_plan.specs.declared.limits.TheConstants.{EVENTS, REQUIREMENTS};
 ghost use Rattle.uhura_plan.specs.Sound.{IsSoundUncertain};
 ghost use Rattle.uhura_net.specs.declared.place.TheConstants.{PLACES};
 ghost use Rattle.uhura_net.specs.Place.{IsPlacedItem, HasPlace, place_number};
 ghost use Rattle.uhura_net.specs.Table.{IsEdgeFor};
-ghost use Rattle.uhura_worst.specs.declared.node.TheConstants.{FIRST_OF_ENDS};
 ghost use Rattle.uhura_worst.specs.Edges.{item_of, duration_edge, requirement_edge};
 ghost use Rattle.uhura_worst.specs.Filled.{IsFilledBy, Puts, PutsItem};
 ghost use Rattle.uhura_worst.specs.Nodes.{HasNodes};
-ghost use Rattle.uhura_conflict.specs.Marked.{DifferAmong};
 ghost use Rattle.uhura_search.specs.Moving.{AreListed};
-ghost use Rattle.uhura_search.specs.Refilled.{tables_without, is_marked_slot, IsGone, HasNoneGone, AreSlotsOf, IsRefilledBy, ListsChanges};
+ghost use Rattle.uhura_search.specs.Refilled.{tables_without, is_marked_slot, IsGone, HasNoneGone, AreSlotsOf, IsRefilledBy, AreSameBut, ListsChanges};
 
 use crate::places::Places;
 use uhura_net::{Edge, EdgeTable, Place, key_of, place_of};
@@ -34,7 +32,7 @@ pub(crate) fn refill(
     requires listed { AreListed places.now table.old }
     requires marks { length marks.now ≡ REQUIREMENTS }
     ensures filled { IsFilledBy (tables_without marks.now vetoes.now) plan.now table.new }
-    ensures changed { DifferAmong table.old table.new changed.new }
+    ensures changed { AreSameBut table.old table.new changed.new }
 {
     changed.clear();
     empty_gone(table, places, changed, plan);
@@ -101,9 +99,17 @@ fn refill_requirements(
 {
     for position in 0..plan.requirements() {
         let requirement = plan.requirement(position).unwrap();
-        let marked = marks[requirement.slot as usize];
+        let marked = is_marked(marks, requirement.slot);
         refill_requirement(table, changed, vetoes, marked, requirement);
     }
+}
+
+/// Whether a slot is marked.
+fn is_marked(marks: &[bool], slot: u32) -> bool
+    requires { slot < length marks.now }
+    ensures { result ≡ is_marked_slot marks.now slot }
+{
+    marks[slot as usize]
 }
 
 /// Puts the edges of all durations.
@@ -190,7 +196,7 @@ fn refill_duration(
     uncertain: &Uncertain,
 )
     requires place { IsPlacedItem (item.Uncertain duration) }
-    requires sound { IsSoundUncertain FIRST_OF_ENDS uncertain.now }
+    requires sound { IsSoundUncertain EVENTS uncertain.now }
     ensures item { PutsItem (item.Uncertain duration)
         (duration_edge vetoes.now duration uncertain.now) table.old table.new }
     ensures changed { ListsChanges table.old table.new changed.old changed.new }
@@ -223,7 +229,7 @@ fn refill_duration_edge(
     key: EdgeKey,
 )
     requires place { IsPlacedItem (item.Uncertain duration) }
-    requires sound { IsSoundUncertain FIRST_OF_ENDS uncertain.now }
+    requires sound { IsSoundUncertain EVENTS uncertain.now }
     requires placed { HasPlace key }
     ensures edge { Puts key (duration_edge vetoes.now duration uncertain.now key) table.old table.new }
     ensures changed { ListsChanges table.old table.new changed.old changed.new }

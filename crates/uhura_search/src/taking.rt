@@ -100,10 +100,10 @@ fn list_changed(places: &mut Places, table: &EdgeTable, changed: &[u32])
         IsSome (edges_of table.now place) → Contains places.old place }
     ensures { AreListed places.new table.now }
 {
-    // The list is one of places, also where none of them changed.
-    let _ = places.as_slice();
     for number in changed {
         let place = Place(*number);
         places.set(place, table.get(place).is_some());
     }
+    // By its type the list rises.
+    let _ = places.as_slice();
 }
