@@ -1,6 +1,6 @@
 -- What a searcher keeps true.
 use Rattle.std.proofs.Common.{◌≡◌, ℕ, ◌<◌, Bool, true, false, true≢false, List, [], length, get_or, replicate, Option, Some, None, inl, inr, ap, sym, subst, refl, ◌∙◌, arith}
-use Rattle.std.specs.Prelude.{ℤ, IsTrue, IsSome, option_map}
+use Rattle.std.specs.Prelude.{ℤ, IsTrue, IsSome, is_some, option_map}
 use Rattle.std.proofs.Math.ListN.{get_or-eq_default}
 use Rattle.std.proofs.lemmas.Bool.{cases_lt}
 use Rattle.std.proofs.lemmas.List.{length-replicate, get_or-replicate}
@@ -76,7 +76,7 @@ none-listed = record {
   rising = λ i j d before inside. absurd (omega arith);
   each = λ place some.
       let none : edges_of (replicate PLACES None) place ≡ None = nothing-at PLACES place in
-      absurd (let never : ⊥ = cc in never);
+      absurd (true≢false (sym some ∙ ap is_some none));
 }
 
 -- a searcher that was made without an edge, a conflict or a guard
