@@ -33,5 +33,5 @@ AreCleared changed = changed ≡ replicate PLACES false
 
 -- between two calls: each edge of the table may stand where it does, and no mark stands
 pub record IsAtRest (table : List (Option Edge)) (changed : List Bool) : Type 0 where
-  pub table : IsTable table
+  pub sound : IsTable table
   pub cleared : AreCleared changed

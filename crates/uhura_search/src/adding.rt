@@ -92,8 +92,7 @@ fn add_flow(
 {
     // By their types the plan is sound, and the units are a circulation.
     let _ = (plan.choices(), learning.flow.value());
-    let places = learning.places.as_slice();
-    let conflict = Conflict::flow_among(alloc, plan, &learning.flow, places)?;
+    let conflict = Conflict::flow_among(alloc, plan, &learning.flow, learning.places.as_slice())?;
     add(learning, conflict, plan, branch)
 }
 

@@ -1,4 +1,4 @@
-use Rattle.std.proofs.Common.{◌≡◌, ◌<◌, false, length, get_or, ◌∙◌, arith, length-set}
+use Rattle.std.proofs.Common.{◌<◌, false, get_or, ◌∙◌, arith, length-set}
 use Rattle.uhura_net.specs.declared.place.TheConstants.{PLACES}
 use Rattle.uhura_conflict.proofs.Among.{unmarked-more, unmarked-all}
 use Rattle.uhura_conflict.proofs.comparing.unmark.Goals as goal

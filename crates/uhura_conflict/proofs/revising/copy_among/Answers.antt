@@ -1,4 +1,4 @@
-use Rattle.std.proofs.Common.{◌≡◌, List, Option, get_or, set, sym, ap, subst, ◌∙◌}
+use Rattle.std.proofs.Common.{◌≡◌, ◌+◌, List, Option, get_or, set, sym, ap, subst, ◌∙◌}
 use Rattle.std.specs.Prelude.{IfSome}
 use Rattle.uhura_net.specs.declared.edge.Edge.{Edge}
 use Rattle.uhura_net.specs.Table.{IsTable, IsEdgeFor}

@@ -4,7 +4,7 @@ use Rattle.std.proofs.lemmas.Bool.{cases_eq, cases_lt}
 use Rattle.std.proofs.lemmas.List.{get_or-set_same, get_or-set_other, get_or_default, get_or_past, length-set, same_lists}
 use Rattle.uhura_net.specs.declared.edge.Edge.{Edge}
 use Rattle.uhura_net.specs.declared.place.TheConstants.{PLACES}
-use Rattle.uhura_net.specs.Table.{IsTable, IsEdgeFor}
+use Rattle.uhura_net.specs.Table.{IsEdgeFor}
 use Rattle.uhura_conflict.proofs.revising.copy_table.Goals as goal
 
 pub loop-number-preserved : goal.loop-number-preserved

@@ -1,4 +1,4 @@
-use Rattle.std.proofs.Common.{ℕ, List, get_or, sym, subst, ◌∙◌}
+use Rattle.std.proofs.Common.{ℕ, List, get_or, sym, subst}
 use Rattle.std.proofs.lemmas.List.{get_or_default}
 use Rattle.uhura_net.specs.declared.place.Place.{Place}
 use Rattle.uhura_net.specs.declared.place.TheConstants.{PLACES}
@@ -26,6 +26,7 @@ loop-number-preserved c =
 
 pub returns : goal.returns
 returns c = record {
-  pairs = used-end (flow_units c.args.net.now) c.args.places.now c.loop-number.pairs.items c.loop-number.number-index c.loop-number-test.false c.loop-number.invariant;
+  pairs = rw c.shrink_to_fit.ensures.items
+      (used-end (flow_units c.args.net.now) c.args.places.now c.loop-number.pairs.items c.loop-number.number-index c.loop-number-test.false c.loop-number.invariant);
   sound = c.value.ensures.sound;
 }

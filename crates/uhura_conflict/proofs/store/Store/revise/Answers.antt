@@ -1,4 +1,6 @@
-use Rattle.std.proofs.Common.{List, Option, sym, subst}
+use Rattle.std.proofs.Common.{◌≡◌, ℕ, false, List, Option, replicate, ap, sym, subst, ◌∙◌, arith}
+use Rattle.std.specs.Prelude.{vec_len}
+use Rattle.uhura_net.specs.declared.place.TheConstants.{PLACES}
 use Rattle.uhura_net.specs.declared.edge.Edge.{Edge}
 use Rattle.uhura_net.specs.Table.{IsTable}
 use Rattle.uhura_conflict.specs.Store.{Stored, IsStore, Revises}
@@ -22,13 +24,14 @@ revise_all-requires-clause-kept c = kept_for c.self.inside.entries c.self.inside
 
 pub invariant_of-self-2 : goal.invariant_of-self-2
 invariant_of-self-2 c =
-    let inside = c.self.inside in (
+    let inside = c.self.inside in
+    let marks : vec_len c.mark_changed.new.changed ≡ PLACES = omega (arith, c.mark_changed.new.changed.ok, c.mark_changed.ensures.marked.places) in (
       subst (λ (table : List (Option Edge)). IsHeldStore c.revise_all.new.entries c.keep_held.new.order.items table) (sym c.copy_table.ensures.copied)
           (held-revised inside.entries c.revise_all.new.entries inside.order.items c.keep_held.new.order.items inside.table c.args.table.now c.revise_all.ensures c.keep_held.ensures
           c.self.invariant.0.sound),
       record {
-        table = subst IsTable (sym c.copy_table.ensures.copied) c.copy_table.ensures.sound;
-        cleared = ?;
+        sound = subst IsTable (sym c.copy_table.ensures.copied) c.copy_table.ensures.sound;
+        cleared = c.fill.ensures.items (λ mark same. same) ∙ ap (λ (n : ℕ). replicate n false) marks;
       },
     )
 

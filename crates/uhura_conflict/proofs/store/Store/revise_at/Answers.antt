@@ -27,7 +27,7 @@ invariant_of-self-2 c =
           (held-revised inside.entries c.revise_all.new.entries inside.order.items c.keep_held.new.order.items inside.table c.args.table.now c.revise_all.ensures c.keep_held.ensures
           c.self.invariant.0.sound),
       record {
-        table = subst IsTable (sym c.copy_among.ensures.copied) c.copy_among.ensures.sound;
+        sound = subst IsTable (sym c.copy_among.ensures.copied) c.copy_among.ensures.sound;
         cleared = c.unmark.ensures;
       },
     )
