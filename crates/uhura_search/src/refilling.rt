@@ -155,12 +155,54 @@ fn refill_requirement(
         item,
         side: Side::Upper,
     };
-    refill_requirement_edge(table, changed, vetoes, marked, requirement, EdgeKey::Loose(lower));
-    refill_requirement_edge(table, changed, vetoes, marked, requirement, EdgeKey::Firm(lower));
-    refill_requirement_edge(table, changed, vetoes, marked, requirement, EdgeKey::Steep(lower));
-    refill_requirement_edge(table, changed, vetoes, marked, requirement, EdgeKey::Loose(upper));
-    refill_requirement_edge(table, changed, vetoes, marked, requirement, EdgeKey::Firm(upper));
-    refill_requirement_edge(table, changed, vetoes, marked, requirement, EdgeKey::Steep(upper));
+    refill_requirement_edge(
+        table,
+        changed,
+        vetoes,
+        marked,
+        requirement,
+        EdgeKey::Loose(lower),
+    );
+    refill_requirement_edge(
+        table,
+        changed,
+        vetoes,
+        marked,
+        requirement,
+        EdgeKey::Firm(lower),
+    );
+    refill_requirement_edge(
+        table,
+        changed,
+        vetoes,
+        marked,
+        requirement,
+        EdgeKey::Steep(lower),
+    );
+    refill_requirement_edge(
+        table,
+        changed,
+        vetoes,
+        marked,
+        requirement,
+        EdgeKey::Loose(upper),
+    );
+    refill_requirement_edge(
+        table,
+        changed,
+        vetoes,
+        marked,
+        requirement,
+        EdgeKey::Firm(upper),
+    );
+    refill_requirement_edge(
+        table,
+        changed,
+        vetoes,
+        marked,
+        requirement,
+        EdgeKey::Steep(upper),
+    );
 }
 
 /// Puts one of the edges of a requirement, or none where its slot is marked.
@@ -210,13 +252,62 @@ fn refill_duration(
         item,
         side: Side::Upper,
     };
-    refill_duration_edge(table, changed, vetoes, duration, uncertain, EdgeKey::Loose(lower));
-    refill_duration_edge(table, changed, vetoes, duration, uncertain, EdgeKey::Firm(lower));
-    refill_duration_edge(table, changed, vetoes, duration, uncertain, EdgeKey::Steep(lower));
-    refill_duration_edge(table, changed, vetoes, duration, uncertain, EdgeKey::Loose(upper));
-    refill_duration_edge(table, changed, vetoes, duration, uncertain, EdgeKey::Firm(upper));
-    refill_duration_edge(table, changed, vetoes, duration, uncertain, EdgeKey::Steep(upper));
-    refill_duration_edge(table, changed, vetoes, duration, uncertain, EdgeKey::Order(duration));
+    refill_duration_edge(
+        table,
+        changed,
+        vetoes,
+        duration,
+        uncertain,
+        EdgeKey::Loose(lower),
+    );
+    refill_duration_edge(
+        table,
+        changed,
+        vetoes,
+        duration,
+        uncertain,
+        EdgeKey::Firm(lower),
+    );
+    refill_duration_edge(
+        table,
+        changed,
+        vetoes,
+        duration,
+        uncertain,
+        EdgeKey::Steep(lower),
+    );
+    refill_duration_edge(
+        table,
+        changed,
+        vetoes,
+        duration,
+        uncertain,
+        EdgeKey::Loose(upper),
+    );
+    refill_duration_edge(
+        table,
+        changed,
+        vetoes,
+        duration,
+        uncertain,
+        EdgeKey::Firm(upper),
+    );
+    refill_duration_edge(
+        table,
+        changed,
+        vetoes,
+        duration,
+        uncertain,
+        EdgeKey::Steep(upper),
+    );
+    refill_duration_edge(
+        table,
+        changed,
+        vetoes,
+        duration,
+        uncertain,
+        EdgeKey::Order(duration),
+    );
 }
 
 /// Puts one of the edges of the duration in this place.
