@@ -155,54 +155,18 @@ fn refill_requirement(
         item,
         side: Side::Upper,
     };
-    refill_requirement_edge(
-        table,
-        changed,
-        vetoes,
-        marked,
-        requirement,
-        EdgeKey::Loose(lower),
-    );
-    refill_requirement_edge(
-        table,
-        changed,
-        vetoes,
-        marked,
-        requirement,
-        EdgeKey::Firm(lower),
-    );
-    refill_requirement_edge(
-        table,
-        changed,
-        vetoes,
-        marked,
-        requirement,
-        EdgeKey::Steep(lower),
-    );
-    refill_requirement_edge(
-        table,
-        changed,
-        vetoes,
-        marked,
-        requirement,
-        EdgeKey::Loose(upper),
-    );
-    refill_requirement_edge(
-        table,
-        changed,
-        vetoes,
-        marked,
-        requirement,
-        EdgeKey::Firm(upper),
-    );
-    refill_requirement_edge(
-        table,
-        changed,
-        vetoes,
-        marked,
-        requirement,
-        EdgeKey::Steep(upper),
-    );
+    let lower_loose = EdgeKey::Loose(lower);
+    let lower_firm = EdgeKey::Firm(lower);
+    let lower_steep = EdgeKey::Steep(lower);
+    let upper_loose = EdgeKey::Loose(upper);
+    let upper_firm = EdgeKey::Firm(upper);
+    let upper_steep = EdgeKey::Steep(upper);
+    refill_requirement_edge(table, changed, vetoes, marked, requirement, lower_loose);
+    refill_requirement_edge(table, changed, vetoes, marked, requirement, lower_firm);
+    refill_requirement_edge(table, changed, vetoes, marked, requirement, lower_steep);
+    refill_requirement_edge(table, changed, vetoes, marked, requirement, upper_loose);
+    refill_requirement_edge(table, changed, vetoes, marked, requirement, upper_firm);
+    refill_requirement_edge(table, changed, vetoes, marked, requirement, upper_steep);
 }
 
 /// Puts one of the edges of a requirement, or none where its slot is marked.
@@ -252,62 +216,20 @@ fn refill_duration(
         item,
         side: Side::Upper,
     };
-    refill_duration_edge(
-        table,
-        changed,
-        vetoes,
-        duration,
-        uncertain,
-        EdgeKey::Loose(lower),
-    );
-    refill_duration_edge(
-        table,
-        changed,
-        vetoes,
-        duration,
-        uncertain,
-        EdgeKey::Firm(lower),
-    );
-    refill_duration_edge(
-        table,
-        changed,
-        vetoes,
-        duration,
-        uncertain,
-        EdgeKey::Steep(lower),
-    );
-    refill_duration_edge(
-        table,
-        changed,
-        vetoes,
-        duration,
-        uncertain,
-        EdgeKey::Loose(upper),
-    );
-    refill_duration_edge(
-        table,
-        changed,
-        vetoes,
-        duration,
-        uncertain,
-        EdgeKey::Firm(upper),
-    );
-    refill_duration_edge(
-        table,
-        changed,
-        vetoes,
-        duration,
-        uncertain,
-        EdgeKey::Steep(upper),
-    );
-    refill_duration_edge(
-        table,
-        changed,
-        vetoes,
-        duration,
-        uncertain,
-        EdgeKey::Order(duration),
-    );
+    let lower_loose = EdgeKey::Loose(lower);
+    let lower_firm = EdgeKey::Firm(lower);
+    let lower_steep = EdgeKey::Steep(lower);
+    let upper_loose = EdgeKey::Loose(upper);
+    let upper_firm = EdgeKey::Firm(upper);
+    let upper_steep = EdgeKey::Steep(upper);
+    let order = EdgeKey::Order(duration);
+    refill_duration_edge(table, changed, vetoes, duration, uncertain, lower_loose);
+    refill_duration_edge(table, changed, vetoes, duration, uncertain, lower_firm);
+    refill_duration_edge(table, changed, vetoes, duration, uncertain, lower_steep);
+    refill_duration_edge(table, changed, vetoes, duration, uncertain, upper_loose);
+    refill_duration_edge(table, changed, vetoes, duration, uncertain, upper_firm);
+    refill_duration_edge(table, changed, vetoes, duration, uncertain, upper_steep);
+    refill_duration_edge(table, changed, vetoes, duration, uncertain, order);
 }
 
 /// Puts one of the edges of the duration in this place.
