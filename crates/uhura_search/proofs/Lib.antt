@@ -13,14 +13,16 @@ pub mod Guarded
 pub mod Holding
 pub mod Learns
 pub mod Leaving
-pub mod Listed
 pub mod Marking
+pub mod Placing
 pub mod Prefixed
 pub mod Putting
 pub mod Ranks
 pub mod Ready
 pub mod Reasons
+pub mod Refills
 pub mod Reguarding
+pub mod Relisting
 pub mod Resuming
 pub mod Shorter
 pub mod Showing

@@ -9,6 +9,9 @@ pub mod Held
 pub mod Known
 pub mod Learning
 pub mod Moving
+pub mod Places
+pub mod Refilled
 pub mod Revised
 pub mod Searcher
 pub mod Shut
+pub mod Taken

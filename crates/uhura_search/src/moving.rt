@@ -1,5 +1,5 @@
 //! From branch to branch: a flow gets the edges that are active after some first picks.
-ghost use Rattle.std.specs.Prelude.{◌≡◌, ◌<◌, false, IfSome, OnOk, List, Option, length, replicate};
+ghost use Rattle.std.specs.Prelude.{◌≡◌, ◌<◌, false, IfSome, List, Option, length, replicate};
 ghost use Rattle.uhura_plan.specs.declared.limits.TheConstants.{REQUIREMENTS};
 ghost use Rattle.uhura_flow.specs.Flow.{flow_edges, IsFlow, IsFlowEdge};
 ghost use Rattle.uhura_choice.specs.declared.prefix.Pick.{Pick};
@@ -18,7 +18,6 @@ ghost use Rattle.uhura_net.specs.Circulation.{edges_of};
 ghost use Rattle.uhura_worst.specs.Edges.{item_of};
 ghost use Rattle.uhura_dual.specs.Settled.{key_at};
 
-use std::alloc::AllocError;
 use uhura_choice::{Prefix, holds};
 use uhura_flow::{Flow, Settled};
 use uhura_net::{Edge, EdgeTable, PLACES, Place, key_of};
@@ -30,19 +29,6 @@ use uhura_plan::{EdgeKey, Item, Plan, REQUIREMENTS};
 pub enum Moved {
     Holds,
     Stuck,
-}
-
-/// Lists the places that have an edge in the table, in room that is kept.
-pub(crate) fn list_places(table: &EdgeTable, places: &mut Vec<u32>) -> Result<(), AllocError>
-    ensures { OnOk result (AreListed places.new.items table.now) }
-{
-    places.clear();
-    for number in 0..PLACES as u32 {
-        if table.get(Place(number)).is_some() {
-            places.push(number)?;
-        }
-    }
-    Ok(())
 }
 
 /// Brings a flow to exactly the edges of the table that are active after the picks: first those go that are to go,
