@@ -11,6 +11,7 @@ pub mod Found
 pub mod Fronting
 pub mod Guarded
 pub mod Holding
+pub mod Lasting
 pub mod Learns
 pub mod Leaving
 pub mod Listed

@@ -1,7 +1,7 @@
--- The prefixes of a branch, the shortest first.
+-- The shortest prefix of a branch that is shut.
 use Rattle.std.proofs.Common.{◌≡◌, ℕ, ◌+◌, ◌<◌, ◌≤◌, List, length, take, sym, ap, ◌∙◌, subst, inl, inr, arith, length-append}
 use Rattle.std.proofs.lemmas.Bool.{cases_lt}
-use Rattle.std.proofs.lemmas.List.{length-take-le}
+use Rattle.std.proofs.lemmas.List.{length-take-le, take_all, take-take}
 use Rattle.uhura_choice.specs.declared.prefix.Pick.{Pick}
 use Rattle.uhura_choice.specs.Order.{IsFrontOf}
 use Rattle.uhura_shows.proofs.Behind.{front-take, take-front}
@@ -16,16 +16,51 @@ NoneBelow Shut branch len = (front : List Pick) → IsFrontOf front branch → l
 front-short : (front picks : List Pick) → IsFrontOf front picks → length front ≤ length picks
 front-short front picks begins = omega (arith, ap length begins.1, length-append front begins.0)
 
--- nor the next one
-pub below-more : (Shut : Prefixes) (branch prefix : List Pick) (len : ℕ) → prefix ≡ take len branch → (Shut prefix → ⊥) → NoneBelow Shut branch len → NoneBelow Shut branch (len + 1)
-below-more Shut branch prefix len is not_shut none front begins short shut =
-    elim (cases_lt (length front) len) [
-      | inl less ↦ none front begins less shut
-      | inr more ↦
-          let long : length front ≡ len = omega (arith, short, more) in
-          let same : front ≡ prefix = sym (front-take front branch begins) ∙ (ap (λ (n : ℕ). take n branch) long ∙ sym is) in
-          not_shut (subst Shut same shut)
-    ]
+-- what shuts a prefix shuts each longer one
+abbrev pub Last : Prefixes → Type 0
+Last Shut = (front picks : List Pick) → IsFrontOf front picks → Shut front → Shut picks
+
+-- then none is shut where the branch isn't
+pub open-none : (Shut : Prefixes) (branch : List Pick) → Last Shut → (Shut branch → ⊥) → NoneBegins Shut branch
+open-none Shut branch last is_open front begins shut = is_open (last front branch begins shut)
+
+-- the shortest prefix that is shut has no fewer picks than the one number, and no more than the other
+pub record IsWithin (Shut : Prefixes) (branch : List Pick) (least most : ℕ) : Type 0 where
+  pub order : least ≤ most
+  pub inside : most ≤ length branch
+  pub none : NoneBelow Shut branch least
+  pub shut : Shut (take most branch)
+
+pub within-all : (Shut : Prefixes) (branch : List Pick) → Shut branch → IsWithin Shut branch 0 (length branch)
+within-all Shut branch shut = record {
+  order = omega arith;
+  inside = omega arith;
+  none = λ front begins short is_shut. omega (arith, short);
+  shut = subst Shut (sym (take_all (length branch) branch (omega arith))) shut;
+}
+
+-- a prefix between that is shut is the most
+pub within-shut : (Shut : Prefixes) (branch prefix : List Pick) (least most middle : ℕ) → least ≤ middle → middle ≤ most → prefix ≡ take middle branch → Shut prefix → IsWithin Shut branch least most →
+    IsWithin Shut branch least middle
+within-shut Shut branch prefix least most middle above below is shut within = record {
+  order = above;
+  inside = omega (arith, below, within.inside);
+  none = within.none;
+  shut = subst Shut is shut;
+}
+
+-- and behind one that isn't is the least
+pub within-open : (Shut : Prefixes) (branch prefix : List Pick) (least most middle : ℕ) → Last Shut → middle < most → prefix ≡ take middle branch → (Shut prefix → ⊥) → IsWithin Shut branch least most →
+    IsWithin Shut branch (middle + 1) most
+within-open Shut branch prefix least most middle last below is is_open within = record {
+  order = omega (arith, below);
+  inside = within.inside;
+  none = λ front begins short shut. is_open (subst Shut (sym is) (last front (take middle branch) (begins-take front begins (omega (arith, short))) shut));
+  shut = within.shut;
+}
+  where
+    begins-take : (front : List Pick) → IsFrontOf front branch → length front ≤ middle → IsFrontOf front (take middle branch)
+    begins-take front begins short = take-front front (take middle branch) (take-take (length front) middle branch short ∙ front-take front branch begins)
 
 -- the first that is shut is the shortest
 pub below-shortest : (Shut : Prefixes) (branch prefix : List Pick) (len : ℕ) → len ≤ length branch → prefix ≡ take len branch → Shut prefix → NoneBelow Shut branch len → IsShortestFront Shut branch prefix
@@ -47,10 +82,3 @@ below-shortest Shut branch prefix len inside is shut none = record {
           | inl less ↦ absurd (none front (front-trans front prefix branch begun begins) less is_shut)
           | inr more ↦ front-same front prefix begun (omega (arith, more, long, front-short front prefix begun))
         ]
-
--- and where none is up to the whole branch, none begins it
-pub below-all : (Shut : Prefixes) (branch : List Pick) (len : ℕ) → length branch < len → NoneBelow Shut branch len → NoneBegins Shut branch
-below-all Shut branch len past none front begins shut = none front begins (omega (arith, past, front-short front branch begins)) shut
-
-pub below-none : (Shut : Prefixes) (branch : List Pick) → NoneBelow Shut branch 0
-below-none Shut branch front begins short shut = omega (arith, short)

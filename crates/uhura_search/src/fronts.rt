@@ -13,7 +13,8 @@ use uhura_plan::Plan;
 use uhura_shows::front_of;
 use uhura_veto::Vetoes;
 
-/// The shortest prefix of the branch that is shut, if one is. It takes no memory.
+/// The shortest prefix of the branch that is shut, if one is. What shuts a prefix shuts each longer one: so where the
+/// branch isn't shut, no prefix is, and else the shortest is found by halves. It takes no memory.
 pub(crate) fn shut_front(
     plan: &Plan,
     vetoes: &Vetoes,
@@ -28,11 +29,19 @@ pub(crate) fn shut_front(
         MatchOption result (NoneBegins (IsShut state store.now best.now) branch.now)
         (IsShortestFront (IsShut state store.now best.now) branch.now) }
 {
-    for len in 0..branch.entries().len() + 1 {
-        let prefix = front_of(plan, branch, len);
+    if !is_shut(plan, vetoes, store, best, branch) {
+        return None;
+    }
+    let mut least = 0;
+    let mut most = branch.entries().len();
+    'narrow: while least < most {
+        let middle = (least + most) / 2;
+        let prefix = front_of(plan, branch, middle);
         if is_shut(plan, vetoes, store, best, &prefix) {
-            return Some(prefix);
+            most = middle;
+        } else {
+            least = middle + 1;
         }
     }
-    None
+    Some(front_of(plan, branch, most))
 }
