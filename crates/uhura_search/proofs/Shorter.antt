@@ -62,23 +62,23 @@ within-open Shut branch prefix least most middle last below is is_open within = 
     begins-take : (front : List Pick) → IsFrontOf front branch → length front ≤ middle → IsFrontOf front (take middle branch)
     begins-take front begins short = take-front front (take middle branch) (take-take (length front) middle branch short ∙ front-take front branch begins)
 
--- the first that is shut is the shortest
-pub below-shortest : (Shut : Prefixes) (branch prefix : List Pick) (len : ℕ) → len ≤ length branch → prefix ≡ take len branch → Shut prefix → NoneBelow Shut branch len → IsShortestFront Shut branch prefix
-below-shortest Shut branch prefix len inside is shut none = record {
+-- where the two are one number, the prefix is the shortest
+pub within-shortest : (Shut : Prefixes) (branch prefix : List Pick) (least most : ℕ) → most ≤ least → prefix ≡ take most branch → IsWithin Shut branch least most → IsShortestFront Shut branch prefix
+within-shortest Shut branch prefix least most met is within = record {
   begins = begins;
-  shut = shut;
-  above = λ front begun is_shut. by_length front begun is_shut;
+  shut = subst Shut (sym is) within.shut;
+  above = by_length;
 }
   where
-    long : length prefix ≡ len
-    long = ap length is ∙ length-take-le len branch inside
+    long : length prefix ≡ most
+    long = ap length is ∙ length-take-le most branch within.inside
 
     begins : IsFrontOf prefix branch
     begins = take-front prefix branch (ap (λ (n : ℕ). take n branch) long ∙ sym is)
 
     by_length : (front : List Pick) → IsFrontOf front prefix → Shut front → front ≡ prefix
     by_length front begun is_shut =
-        elim (cases_lt (length front) len) [
-          | inl less ↦ absurd (none front (front-trans front prefix branch begun begins) less is_shut)
+        elim (cases_lt (length front) most) [
+          | inl less ↦ absurd (within.none front (front-trans front prefix branch begun begins) (omega (arith, less, met)) is_shut)
           | inr more ↦ front-same front prefix begun (omega (arith, more, long, front-short front prefix begun))
         ]

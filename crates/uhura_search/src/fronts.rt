@@ -39,9 +39,9 @@ pub(crate) fn shut_front(
         let prefix = front_of(plan, branch, middle);
         if is_shut(plan, vetoes, store, best, &prefix) {
             most = middle;
-        } else {
-            least = middle + 1;
+            continue;
         }
+        least = middle + 1;
     }
     Some(front_of(plan, branch, most))
 }

@@ -1,24 +1,43 @@
-use Rattle.std.proofs.Common.{length, ap, sym, subst, arith}
+use Rattle.std.proofs.Common.{sym, subst, ap, length, arith, ◌∙◌}
 use Rattle.uhura_choice.specs.Branch.{IsPrefix}
 use Rattle.uhura_choice.proofs.Prefixes.{branch-prefix, prefix-take}
+use Rattle.uhura_veto.specs.State.{State}
 use Rattle.uhura_search.specs.Shut.{IsShut}
-use Rattle.uhura_search.proofs.Shorter.{below-more, below-shortest, below-none}
+use Rattle.uhura_search.proofs.Lasting.{shut-lasts}
+use Rattle.uhura_search.proofs.Shorter.{open-none, within-all, within-shut, within-open, within-shortest}
 use Rattle.uhura_search.proofs.fronts.shut_front.Goals as goal
 
-pub loop-len-init : goal.loop-len-init
-loop-len-init c = below-none (IsShut (record { plan = c.args.plan.now; vetoes = c.args.vetoes.now }) c.args.store.now c.args.best.now) c.args.branch.now
-
-pub loop-len-preserved : goal.loop-len-preserved
-loop-len-preserved c =
-    below-more (IsShut (record { plan = c.args.plan.now; vetoes = c.args.vetoes.now }) c.args.store.now c.args.best.now) c.args.branch.now c.front_of-prefix.result c.loop-len.len
-    c.front_of-prefix.ensures c.if-is_shut.ensures c.loop-len.invariant
-
 pub is_shut-requires-clause-prefix : goal.is_shut-requires-clause-prefix
-is_shut-requires-clause-prefix c =
-    let choices = c.args.plan.now.choices in
-    subst (λ p. IsPrefix choices p) (sym c.front_of-prefix.ensures) (prefix-take choices c.loop-len.len c.args.branch.now (branch-prefix choices c.args.branch.now c.requires.is_branch))
+is_shut-requires-clause-prefix c = branch-prefix c.args.plan.now.choices c.args.branch.now c.requires.is_branch
 
-pub returns-then-is_shut : goal.returns-then-is_shut
-returns-then-is_shut c =
-    below-shortest (IsShut (record { plan = c.args.plan.now; vetoes = c.args.vetoes.now }) c.args.store.now c.args.best.now) c.args.branch.now c.front_of-prefix.result c.loop-len.len
-    (omega (arith, c.loop-len-test.true, ap length c.entries.ensures.entries)) c.front_of-prefix.ensures c.if-is_shut.ensures c.loop-len.invariant
+pub returns-then-not-is_shut : goal.returns-then-not-is_shut
+returns-then-not-is_shut c =
+    let state : State = record { plan = c.args.plan.now; vetoes = c.args.vetoes.now } in
+    open-none (IsShut state c.args.store.now c.args.best.now) c.args.branch.now (shut-lasts state c.args.store.now c.args.best.now) c.if-is_shut.ensures
+
+pub narrow-init : goal.narrow-init
+narrow-init c =
+    let state : State = record { plan = c.args.plan.now; vetoes = c.args.vetoes.now } in
+    within-all (IsShut state c.args.store.now c.args.best.now) c.args.branch.now c.if-is_shut.ensures
+
+pub is_shut-requires-in-narrow-clause-prefix : goal.is_shut-requires-in-narrow-clause-prefix
+is_shut-requires-in-narrow-clause-prefix c =
+    let choices = c.args.plan.now.choices in
+    subst (λ p. IsPrefix choices p) (sym c.front_of-prefix.ensures) (prefix-take choices c.middle c.args.branch.now (branch-prefix choices c.args.branch.now c.requires.is_branch))
+
+pub narrow-preserved-then-is_shut : goal.narrow-preserved-then-is_shut
+narrow-preserved-then-is_shut c =
+    let state : State = record { plan = c.args.plan.now; vetoes = c.args.vetoes.now } in
+    within-shut (IsShut state c.args.store.now c.args.best.now) c.args.branch.now c.front_of-prefix.result c.narrow.least c.narrow.most c.middle (omega (arith, c.narrow-test.true)) (omega (arith, c.narrow-test.true))
+    c.front_of-prefix.ensures c.if-is_shut-in-narrow.ensures c.narrow.invariant
+
+pub narrow-preserved : goal.narrow-preserved
+narrow-preserved c =
+    let state : State = record { plan = c.args.plan.now; vetoes = c.args.vetoes.now } in
+    within-open (IsShut state c.args.store.now c.args.best.now) c.args.branch.now c.front_of-prefix.result c.narrow.least c.narrow.most c.middle (shut-lasts state c.args.store.now c.args.best.now)
+    (omega (arith, c.narrow-test.true)) c.front_of-prefix.ensures c.if-is_shut-in-narrow.ensures c.narrow.invariant
+
+pub returns : goal.returns
+returns c =
+    let state : State = record { plan = c.args.plan.now; vetoes = c.args.vetoes.now } in
+    within-shortest (IsShut state c.args.store.now c.args.best.now) c.args.branch.now c.front_of.result c.narrow.least c.narrow.most c.narrow-test.false c.front_of.ensures c.narrow.invariant

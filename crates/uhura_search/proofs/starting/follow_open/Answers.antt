@@ -2,7 +2,7 @@ use Rattle.std.proofs.Common.{◌≡◌, length, ap, arith}
 use Rattle.uhura_choice.proofs.Prefixes.{sound-have_alternatives, prefix-few}
 use Rattle.uhura_shows.proofs.Behind.{some-child}
 use Rattle.uhura_search.proofs.Following.{further, whole}
-use Rattle.uhura_search.proofs.starting.follow.Goals as goal
+use Rattle.uhura_search.proofs.starting.follow_open.Goals as goal
 
 pub wish_at-wish-requires : goal.wish_at-wish-requires
 wish_at-wish-requires c =
