@@ -31,12 +31,12 @@ pub record IsWithin (Shut : Prefixes) (branch : List Pick) (least most : ℕ) : 
   pub none : NoneBelow Shut branch least
   pub shut : Shut (take most branch)
 
-pub within-all : (Shut : Prefixes) (branch : List Pick) → Shut branch → IsWithin Shut branch 0 (length branch)
-within-all Shut branch shut = record {
+pub within-all : (Shut : Prefixes) (branch : List Pick) (most : ℕ) → most ≡ length branch → Shut branch → IsWithin Shut branch 0 most
+within-all Shut branch most all shut = record {
   order = omega arith;
-  inside = omega arith;
+  inside = omega (arith, all);
   none = λ front begins short is_shut. omega (arith, short);
-  shut = subst Shut (sym (take_all (length branch) branch (omega arith))) shut;
+  shut = subst Shut (sym (take_all most branch (omega (arith, all)))) shut;
 }
 
 -- a prefix between that is shut is the most

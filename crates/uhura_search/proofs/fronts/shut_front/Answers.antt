@@ -1,4 +1,5 @@
 use Rattle.std.proofs.Common.{sym, subst, ap, length, arith, ◌∙◌}
+use Rattle.std.specs.Prelude.{◌+◌, ◌/◌}
 use Rattle.uhura_choice.specs.Branch.{IsPrefix}
 use Rattle.uhura_choice.proofs.Prefixes.{branch-prefix, prefix-take}
 use Rattle.uhura_veto.specs.State.{State}
@@ -13,29 +14,29 @@ is_shut-requires-clause-prefix c = branch-prefix c.args.plan.now.choices c.args.
 pub returns-then-not-is_shut : goal.returns-then-not-is_shut
 returns-then-not-is_shut c =
     let state : State = record { plan = c.args.plan.now; vetoes = c.args.vetoes.now } in
-    open-none (IsShut state c.args.store.now c.args.best.now) c.args.branch.now (shut-lasts state c.args.store.now c.args.best.now) c.if-is_shut.ensures
+    open-none (IsShut state c.args.store.now c.args.best.now) c.args.branch.now (shut-lasts state c.args.store.now c.args.best.now) c.if-not-is_shut.ensures
 
 pub narrow-init : goal.narrow-init
 narrow-init c =
     let state : State = record { plan = c.args.plan.now; vetoes = c.args.vetoes.now } in
-    within-all (IsShut state c.args.store.now c.args.best.now) c.args.branch.now c.if-is_shut.ensures
+    within-all (IsShut state c.args.store.now c.args.best.now) c.args.branch.now (length c.entries-most.result.now) (ap length c.entries-most.ensures.entries) c.if-not-is_shut.ensures
 
 pub is_shut-requires-in-narrow-clause-prefix : goal.is_shut-requires-in-narrow-clause-prefix
 is_shut-requires-in-narrow-clause-prefix c =
     let choices = c.args.plan.now.choices in
-    subst (λ p. IsPrefix choices p) (sym c.front_of-prefix.ensures) (prefix-take choices c.middle c.args.branch.now (branch-prefix choices c.args.branch.now c.requires.is_branch))
+    subst (λ p. IsPrefix choices p) (sym c.front_of-prefix.ensures) (prefix-take choices ((c.narrow.least + c.narrow.most) / 2) c.args.branch.now (branch-prefix choices c.args.branch.now c.requires.is_branch))
 
 pub narrow-preserved-then-is_shut : goal.narrow-preserved-then-is_shut
 narrow-preserved-then-is_shut c =
     let state : State = record { plan = c.args.plan.now; vetoes = c.args.vetoes.now } in
-    within-shut (IsShut state c.args.store.now c.args.best.now) c.args.branch.now c.front_of-prefix.result c.narrow.least c.narrow.most c.middle (omega (arith, c.narrow-test.true)) (omega (arith, c.narrow-test.true))
-    c.front_of-prefix.ensures c.if-is_shut-in-narrow.ensures c.narrow.invariant
+    within-shut (IsShut state c.args.store.now c.args.best.now) c.args.branch.now c.front_of-prefix.result c.narrow.least c.narrow.most ((c.narrow.least + c.narrow.most) / 2) (omega (arith, c.narrow-test.true)) (omega (arith, c.narrow-test.true))
+    c.front_of-prefix.ensures c.if-is_shut.ensures c.narrow.invariant
 
 pub narrow-preserved : goal.narrow-preserved
 narrow-preserved c =
     let state : State = record { plan = c.args.plan.now; vetoes = c.args.vetoes.now } in
-    within-open (IsShut state c.args.store.now c.args.best.now) c.args.branch.now c.front_of-prefix.result c.narrow.least c.narrow.most c.middle (shut-lasts state c.args.store.now c.args.best.now)
-    (omega (arith, c.narrow-test.true)) c.front_of-prefix.ensures c.if-is_shut-in-narrow.ensures c.narrow.invariant
+    within-open (IsShut state c.args.store.now c.args.best.now) c.args.branch.now c.front_of-prefix.result c.narrow.least c.narrow.most ((c.narrow.least + c.narrow.most) / 2) (shut-lasts state c.args.store.now c.args.best.now)
+    (omega (arith, c.narrow-test.true)) c.front_of-prefix.ensures c.if-is_shut.ensures c.narrow.invariant
 
 pub returns : goal.returns
 returns c =

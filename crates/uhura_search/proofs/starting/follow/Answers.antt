@@ -1,0 +1,7 @@
+use Rattle.std.proofs.Common.{sym, subst}
+use Rattle.uhura_choice.specs.Branch.{IsPrefix}
+use Rattle.uhura_choice.proofs.Prefixes.{branch-prefix, prefix-take}
+use Rattle.uhura_search.proofs.starting.follow.Goals as goal
+
+pub is_shut-requires-clause-prefix : goal.is_shut-requires-clause-prefix
+is_shut-requires-clause-prefix c = branch-prefix c.args.plan.now.choices c.follow_wishes-wished.result c.follow_wishes-wished.ensures
