@@ -3,6 +3,7 @@ pub mod Answering
 pub mod Appending
 pub mod Bettering
 pub mod Bounding
+pub mod Coming
 pub mod Denials
 pub mod Enough
 pub mod FlowBounds

@@ -7,6 +7,7 @@ ghost use Rattle.uhura_search.specs.Fronts.{IsStopped};
 ghost use Rattle.uhura_search.specs.Moving.{AreAmong, AreListed, HasFlowBounds};
 ghost use Rattle.uhura_search.specs.Shut.{IsSmallCost};
 
+use crate::going::go_on;
 use crate::incumbent::Incumbent;
 use crate::moving::{Moved, move_to};
 use crate::shut::is_dear;
@@ -17,7 +18,7 @@ use uhura_net::EdgeTable;
 use uhura_plan::Plan;
 use uhura_shows::front_of;
 
-/// Where the flow stops: it is stuck, or worth enough for the best so far, or neither before the whole branch.
+/// Where the flow stops: it is stuck, or worth enough for the best so far, or neither before it stands at the branch.
 #[derive(Clone, Copy, Debug, PartialEq, Eq)]
 pub(crate) enum Stop {
     Stuck,
@@ -44,16 +45,22 @@ pub(crate) fn step(
     requires small { IfSome best.now IsSmallCost }
     ensures { IsStopped flow.old flow.new table.now plan.now best.now branch.now result }
 {
-    for len in shared(stands, branch)..branch.entries().len() {
-        let front = front_of(plan, branch, len);
-        let moved = move_to(flow, table, places, plan, &front);
-        *stands = front;
+    let first = shared(stands, branch);
+    *stands = front_of(plan, branch, first);
+    match move_to(flow, table, places, plan, stands) {
+        Moved::Stuck => return Stop::Stuck,
+        Moved::Holds => {}
+    }
+    for len in first..branch.entries().len() {
+        if is_dear(plan, best, branch, value_of(flow)) {
+            return Stop::Dear;
+        }
+        let next = front_of(plan, branch, len + 1);
+        let moved = go_on(flow, table, plan, stands, &next);
+        *stands = next;
         match moved {
             Moved::Stuck => return Stop::Stuck,
             Moved::Holds => {}
-        }
-        if is_dear(plan, best, branch, value_of(flow)) {
-            return Stop::Dear;
         }
     }
     Stop::Open
