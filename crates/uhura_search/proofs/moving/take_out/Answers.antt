@@ -23,7 +23,7 @@ loop-number-preserved c =
         | then-whole w ↦
             all-more c.args.places.now c.loop-number.number-index old new wanted c.loop-number-test.true (c.loop-number.invariant.whole w.if-whole.true) taken.others
             (λ edge is. w.has_at-whole.ensures (sym w.whole-is ∙ all) ∙ (c.wanted-edge.ensures.edge ∙ is))
-        | else-whole w ↦ absurd (true≢false (sym all ∙ w.whole-is))
+        | else-whole w ↦ absurd (true≢false (sym all ∙ w.whole-is ∙ w.if-whole.false))
       ];
     }
 
