@@ -1,7 +1,8 @@
 //! The way of the flow to a branch, pick by pick.
-ghost use Rattle.std.specs.Prelude.{IfSome, ◌≤◌, length};
+ghost use Rattle.std.specs.Prelude.{IfSome, IsTrue, ◌≡◌, ◌≤◌, length, take};
 ghost use Rattle.uhura_choice.specs.Branch.{IsBranch};
 ghost use Rattle.uhura_flow.specs.Flow.{flow_edges};
+ghost use Rattle.uhura_plan.specs.declared.limits.TheConstants.{CHOICES};
 ghost use Rattle.uhura_net.specs.Circulation.{edges_of};
 ghost use Rattle.uhura_search.specs.Fronts.{IsStopped};
 ghost use Rattle.uhura_search.specs.Moving.{AreAmong, AreListed, HasFlowBounds};
@@ -12,7 +13,7 @@ use crate::incumbent::Incumbent;
 use crate::moving::{Moved, move_to};
 use crate::shut::is_dear;
 use crate::trying::value_of;
-use uhura_choice::{Branch, Prefix};
+use uhura_choice::{Branch, Pick, Prefix};
 use uhura_flow::Flow;
 use uhura_net::EdgeTable;
 use uhura_plan::Plan;
@@ -67,15 +68,24 @@ pub(crate) fn step(
 }
 
 /// How many first picks are the same.
-fn shared(one: &Prefix, other: &Prefix) -> usize
-    ensures { result ≤ length other.now }
+pub(crate) fn shared(one: &Prefix, other: &Prefix) -> usize
+    ensures few { result ≤ length other.now }
+    ensures small { result ≤ CHOICES }
+    ensures same { take result one.now ≡ take result other.now }
 {
     let (one, other) = (one.entries(), other.entries());
     let most = one.len().min(other.len());
     for place in 0..most {
-        if one[place] != other[place] {
+        if !is_same(one[place], other[place]) {
             return place;
         }
     }
     most
+}
+
+/// Whether the picks are the same.
+fn is_same(one: Pick, other: Pick) -> bool
+    ensures { IsTrue result → one ≡ other }
+{
+    one == other
 }
