@@ -3,6 +3,7 @@ pub mod Answering
 pub mod Appending
 pub mod Bettering
 pub mod Bounding
+pub mod Coming
 pub mod Denials
 pub mod Enough
 pub mod FlowBounds
@@ -11,6 +12,7 @@ pub mod Found
 pub mod Fronting
 pub mod Guarded
 pub mod Holding
+pub mod Lasting
 pub mod Learns
 pub mod Leaving
 pub mod Marking

@@ -4,6 +4,7 @@ pub mod Asked
 pub mod Bounds
 pub mod Closed
 pub mod Fronts
+pub mod Going
 pub mod Guards
 pub mod Held
 pub mod Known

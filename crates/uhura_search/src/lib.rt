@@ -13,6 +13,7 @@ mod ask;
 mod closing;
 mod cover;
 mod fronts;
+mod going;
 mod guards;
 mod incumbent;
 mod keeping;
