@@ -1,8 +1,8 @@
 //! Where two tables differ.
 ghost use Rattle.std.specs.Prelude.{◌≡◌, ◌<◌, IsTrue, IsFalse, length, All, slice_index_or, false};
 ghost use Rattle.uhura_net.specs.declared.place.TheConstants.{PLACES};
-ghost use Rattle.uhura_conflict.specs.Marked.{AreMarked, IsUnmarked, DifferAmong, AreMarksAmong, AreCleared};
 ghost use Rattle.uhura_net.specs.Table.{IsTable};
+ghost use Rattle.uhura_conflict.specs.Marked.{AreMarked, IsUnmarked, DifferAmong, AreMarksAmong, AreCleared};
 
 use uhura_net::{Edge, EdgeTable, PLACES, Place};
 

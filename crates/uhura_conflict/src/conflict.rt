@@ -4,8 +4,8 @@ ghost use Rattle.std.specs.List.{All};
 ghost use Rattle.uhura_flow.specs.Flow.{flow_units};
 ghost use Rattle.uhura_net.specs.declared.place.TheConstants.{PLACES};
 ghost use Rattle.uhura_conflict.specs.Learned.{places_in, AreFlowPairs, AreUnitsOf, IsLearned, walk_pairs};
-ghost use Rattle.uhura_conflict.specs.Used.{AreUsedAmong};
 ghost use Rattle.uhura_conflict.specs.Literals.{AreActiveTogether, AreUsedTogether, AreLiteralsOf, Applies};
+ghost use Rattle.uhura_conflict.specs.Used.{AreUsedAmong};
 
 use crate::literals::{applies, literals_of};
 use crate::used::{used_among, used_pairs};
@@ -57,7 +57,7 @@ impl Conflict {
         Conflict::of_pairs(plan, used_pairs(alloc, net)?, false)
     }
 
-    /// The flow's present units above 0, by rising places. The places with units are all among those given, which rise.
+    /// The same, where the places with units are all among these, which rise. No others are looked at.
     pub fn flow_among(
         alloc: Global,
         plan: &Plan,

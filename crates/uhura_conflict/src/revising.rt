@@ -2,8 +2,8 @@
 ghost use Rattle.std.specs.Prelude.{◌≡◌, ◌≢◌, ◌<◌, ◌≤◌, ℕ, IsFalse, IfSome, All, filter, length};
 ghost use Rattle.slab.specs.Slab.{get};
 ghost use Rattle.uhura_net.specs.declared.place.TheConstants.{PLACES};
-ghost use Rattle.uhura_conflict.specs.Marked.{AreMarked, DifferAmong};
 ghost use Rattle.uhura_net.specs.Table.{IsTable};
+ghost use Rattle.uhura_conflict.specs.Marked.{AreMarked, DifferAmong};
 ghost use Rattle.uhura_conflict.specs.Entries.{is_held, IsKeptFor, IsUntouched, RevisesAt};
 
 use crate::comparing::touches;

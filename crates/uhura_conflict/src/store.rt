@@ -1,10 +1,10 @@
 //! What was learned and kept.
 ghost use Rattle.std.specs.Prelude.{◌≡◌, ℕ, ◌≤◌, ◌<◌, All, find, IfOk, IfErr, OnErr, MatchBool};
+ghost use Rattle.uhura_net.specs.declared.place.TheConstants.{PLACES};
 ghost use Rattle.uhura_net.specs.Circulation.{edges_of};
 ghost use Rattle.uhura_conflict.specs.Learned.{IsValid};
 ghost use Rattle.uhura_conflict.specs.Literals.{Applies};
 ghost use Rattle.uhura_conflict.specs.Marked.{DifferAmong};
-ghost use Rattle.uhura_net.specs.declared.place.TheConstants.{PLACES};
 ghost use Rattle.uhura_conflict.specs.Store.{conflict_at, IsStore, empty_store, IsBest, Reaches, ExceedsBest, Adds, Revises, Trims};
 
 use crate::comparing::{mark_among, mark_changed, unmark};
@@ -24,7 +24,7 @@ use uhura_choice::{Branch, Prefix};
 use uhura_net::{EdgeTable, PLACES};
 
 /// Conflicts under keys, each valid for the table last taken over, and their keys in the order in which they were
-/// added. The marks are room for a change of tables, and stand during one alone.
+/// added. The marks stand where two tables differ, and only while the one is taken over for the other.
 #[derive(Drop)]
 pub struct Store {
     entries: Slab<Entry>,
@@ -135,8 +135,8 @@ impl Store {
         self.changed.fill(false);
     }
 
-    /// Takes over, as `revise` does, a table that differs from the last one at these places at most. It looks at no other
-    /// places, and at what was learned.
+    /// Takes over, as `revise` does, a table that differs from the last one at these places at most. Besides them it
+    /// looks at what was learned alone.
     pub fn revise_at(&mut self, table: &EdgeTable, places: &[u32])
         requires inside { All (λ place. place < PLACES) places.now }
         requires differ { DifferAmong self.old.table table.now places.now }

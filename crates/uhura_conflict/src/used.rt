@@ -21,7 +21,7 @@ pub(crate) fn used_pairs(alloc: Global, net: &Flow) -> Result<Vec<(Place, u64)>,
     Ok(pairs)
 }
 
-/// The same, where the places with units are all among these, which rise: no others are looked at.
+/// The same, where the places with units are all among these, which rise. No others are looked at.
 pub(crate) fn used_among(
     alloc: Global,
     net: &Flow,

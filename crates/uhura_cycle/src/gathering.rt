@@ -1,5 +1,5 @@
 //! The edges that are followed.
-ghost use Rattle.std.specs.Prelude.{◌≡◌, ◌<◌, ◌≤◌, length, take, IfSome};
+ghost use Rattle.std.specs.Prelude.{◌≡◌, ◌<◌, ◌≤◌, length, IfSome, vec_capacity};
 ghost use Rattle.uhura_net.specs.Table.{IsEdgeFor};
 ghost use Rattle.uhura_net.specs.Edges.{chosen_edges};
 ghost use Rattle.uhura_cycle.specs.Steps.{AreStepsOf, AreSoundSteps, IsLeastBound};
@@ -7,25 +7,23 @@ ghost use Rattle.uhura_cycle.specs.Steps.{AreStepsOf, AreSoundSteps, IsLeastBoun
 use crate::step::Step;
 use uhura_net::{Edge, EdgeTable, PLACES, Place};
 
-/// Puts the chosen edges that are there to the front of `steps`, and says how many they are.
-pub(crate) fn gather(table: &EdgeTable, chosen: &[bool], steps: &mut [Step]) -> usize
+/// Makes the steps those of the chosen edges that are there.
+pub(crate) fn gather(table: &EdgeTable, chosen: &[bool], steps: &mut Vec<Step>)
     requires chosen { length chosen.now ≡ PLACES }
-    requires steps { length steps.old ≡ PLACES }
-    ensures count { result ≤ PLACES }
-    ensures steps { AreStepsOf (chosen_edges table.now chosen.now) (take result steps.new) }
-    ensures sound { AreSoundSteps (take result steps.new) }
+    requires room { PLACES ≤ vec_capacity steps.old }
+    ensures steps { AreStepsOf (chosen_edges table.now chosen.now) steps.new.items }
+    ensures sound { AreSoundSteps steps.new.items }
+    ensures room { vec_capacity steps.new ≡ vec_capacity steps.old }
 {
-    let mut count = 0;
+    steps.clear();
     for number in 0..PLACES as u32 {
         if let Some(edge) = chosen_edge(table, chosen, number) {
-            steps[count] = Step {
+            steps.push_reserved(Step {
                 place: Place(number),
                 edge,
-            };
-            count += 1;
+            });
         }
     }
-    count
 }
 
 /// The edge at a place, where there is one and the place is chosen.

@@ -1,14 +1,12 @@
 //! The solver.
-ghost use Rattle.std.specs.Prelude.{◌≡◌, ◌<◌, ◌≤◌, length, take, IfSome};
-ghost use Rattle.uhura_net.specs.Edges.{Edges, chosen_edges};
-ghost use Rattle.uhura_cycle.specs.Steps.{AreStepsOf, AreSoundSteps};
-ghost use Rattle.uhura_cycle.specs.Verdict.{IsFound, IsVerdict};
+ghost use Rattle.std.specs.Prelude.{◌≡◌, length};
+ghost use Rattle.uhura_net.specs.Edges.{chosen_edges};
+ghost use Rattle.uhura_cycle.specs.Verdict.{IsVerdict};
 
 use crate::descending::descend;
 use crate::gathering::{gather, least_bound};
-use crate::step::Step;
 use crate::{Scratch, Verdict};
-use uhura_net::{EdgeTable, NODES, PLACES, Place};
+use uhura_net::{EdgeTable, PLACES};
 
 /// The verdict on the edges of the table at the chosen places. It takes no memory. The work is at most nodes times
 /// chosen edges, and much less where few passes settle the times or a closed walk is found early. Passes go through
@@ -19,10 +17,11 @@ pub fn settle<'a>(table: &EdgeTable, chosen: &[bool], scratch: &'a mut Scratch) 
     requires { length chosen.now ≡ PLACES }
     ensures { IsVerdict (chosen_edges table.now chosen.now) result }
 {
-    let count = gather(table, chosen, &mut scratch.steps);
-    let found = descend_first(
+    gather(table, chosen, &mut scratch.steps);
+    let least = least_bound(&scratch.steps);
+    let found = descend(
         &mut scratch.steps,
-        count,
+        least,
         &mut scratch.times,
         &mut scratch.backs,
         &mut scratch.visits,
@@ -32,29 +31,4 @@ pub fn settle<'a>(table: &EdgeTable, chosen: &[bool], scratch: &'a mut Scratch) 
         None => Verdict::Potentials(&scratch.times),
         Some((from, to)) => Verdict::Negative(&scratch.walk[from..to]),
     }
-}
-
-/// Descends by the first `count` steps.
-fn descend_first(
-    steps: &mut [Step],
-    count: usize,
-    times: &mut [i64],
-    backs: &mut [Option<Step>],
-    visits: &mut [Option<usize>],
-    walk: &mut [Place],
-) -> Option<(usize, usize)>
-    requires count { count ≤ length steps.old }
-    requires steps { (edges : Edges) × AreStepsOf edges (take count steps.old) }
-    requires sound { AreSoundSteps (take count steps.old) }
-    requires times { length times.old ≡ NODES }
-    requires backs { length backs.old ≡ NODES }
-    requires visits { length visits.old ≡ NODES }
-    requires walk { length walk.old ≡ NODES }
-    ensures part { IfSome result (λ part. (part.0 < part.1) × (part.1 ≤ NODES)) }
-    ensures found { (edges : Edges) → AreStepsOf edges (take count steps.old) →
-        IsFound edges times.new walk.new result }
-{
-    let first = &mut steps[..count];
-    let least = least_bound(first);
-    descend(first, least, times, backs, visits, walk)
 }

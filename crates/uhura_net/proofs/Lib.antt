@@ -1,5 +1,6 @@
 mod Bounds
 pub mod Cancelling
+mod Cells
 pub mod Clones
 pub mod Cycles
 pub mod Duality

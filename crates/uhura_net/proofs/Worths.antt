@@ -85,14 +85,13 @@ value_set net place edge is_net inside =
     omega (arith, ints, sums, here)
 
 -- the same where the old edge and the units are read, and the value was that of the net
-pub value_changed : (net : NetState) (place : ℕ) (old edge : Option Edge) (units : ℕ) (value changed : ℤ) → IsNet net → place < PLACES → old ≡ get_or net.edges place old →
+pub value_changed : (net : NetState) (place : ℕ) (old edge : Option Edge) (units : ℕ) (value changed : ℤ) → IsNet net → place < PLACES → old ≡ edges_of net.edges place →
     units ≡ get_or net.units place units → value ≡ net_value net →
     changed ≡ (value +ℤ (pos units *ℤ (unwrap_or old no_edge).bound)) -ℤ (pos units *ℤ (unwrap_or edge no_edge).bound) →
     changed ≡ net_value (record { edges = set net.edges place edge; units = net.units; pushes = net.pushes })
 value_changed net place old edge units value changed is_net inside read counted worth is =
-    let old_is : old ≡ edges_of net.edges place = read ∙ get_or_default net.edges place old None (omega (arith, is_net.places)) in
     let units_is : units ≡ units_of net.units place = counted ∙ get_or_default net.units place units 0 (omega (arith, is_net.counts)) in
     let term : ℕ → Option Edge → ℤ = λ u e. pos u *ℤ (unwrap_or e no_edge).bound in
-    let before = ap (λ u. term u old) units_is ∙ ap (λ e. term (units_of net.units place) e) old_is in
+    let before = ap (λ u. term u old) units_is ∙ ap (λ e. term (units_of net.units place) e) read in
     let after = ap (λ u. term u edge) units_is in
     omega (arith, ints, is, worth, before, after, value_set net place edge is_net inside)

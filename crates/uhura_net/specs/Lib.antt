@@ -1,4 +1,5 @@
 pub mod Place
+pub mod Sparse
 pub mod Table
 pub mod Edges
 pub mod Walk

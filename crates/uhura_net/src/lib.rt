@@ -10,6 +10,7 @@ mod lists;
 mod moving;
 mod net;
 mod place;
+mod sparse;
 mod table;
 mod worth;
 

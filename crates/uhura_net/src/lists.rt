@@ -4,7 +4,8 @@ ghost use Rattle.uhura_net.specs.Circulation.{edges_of};
 ghost use Rattle.uhura_net.specs.Net.{AreNetEdges};
 ghost use Rattle.uhura_net.specs.Lists.{first_of, next_of, node_of, number_of, IsListing, IsListedAt, AreListed, AreListedBut, IsLinked, IsUnlisted};
 
-use crate::{Edge, End, NODES, PLACES, Place};
+use crate::sparse::SparseEdges;
+use crate::{End, NODES, PLACES, Place};
 use std::alloc::{AllocError, Global};
 use std::marker::Model;
 
@@ -77,13 +78,13 @@ impl Lists {
 
     /// Lists a place where its edge has the end, if it has an edge. The places are all listed anew where it stood at
     /// another node.
-    pub(crate) fn list(&mut self, edges: &[Option<Edge>], end: End, place: Place)
+    pub(crate) fn list(&mut self, edges: &SparseEdges, end: End, place: Place)
         requires place { place.0 < PLACES }
         requires edges { AreNetEdges edges.now }
         requires others { AreListedBut place.0 (edges_of edges.now) end self.old }
         ensures { AreListed (edges_of edges.now) end self.new }
     {
-        if let Some(edge) = edges[place.0 as usize] {
+        if let Some(edge) = edges.get(place) {
             let node = edge.node(end);
             let stands = self.nodes[place.0 as usize];
             if stands == node {
@@ -98,14 +99,15 @@ impl Lists {
     }
 
     /// Lists each place that has an edge, and no other.
-    fn list_all(&mut self, edges: &[Option<Edge>], end: End)
+    fn list_all(&mut self, edges: &SparseEdges, end: End)
         requires edges { AreNetEdges edges.now }
         ensures { AreListed (edges_of edges.now) end self.new }
     {
         self.clear();
-        for (place, edge) in edges.iter().enumerate() {
-            if let Some(edge) = edge {
-                self.link(Place(place as u32), edge.node(end));
+        for number in 0..PLACES as u32 {
+            let place = Place(number);
+            if let Some(edge) = edges.get(place) {
+                self.link(place, edge.node(end));
             }
         }
     }

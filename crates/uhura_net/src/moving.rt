@@ -8,6 +8,7 @@ ghost use Rattle.uhura_net.specs.Circulation.{Units, edges_of, units_of};
 ghost use Rattle.uhura_net.specs.Residual.{is_same_place, residual_edge, residual_walk, CanMove, IsPushed};
 ghost use Rattle.uhura_net.specs.Net.{IsNetEdge, AreNetEdges};
 
+use crate::sparse::SparseEdges;
 use crate::{Edge, Place};
 
 /// Adds the amount to each place that is walked forward and takes it from each that is walked backward.
@@ -30,7 +31,7 @@ pub(crate) fn move_units(units: &mut [u64], places: &[Place], backward: &[bool],
 }
 
 /// The sum of the bounds along a walk.
-pub(crate) fn bounds_along(edges: &[Option<Edge>], places: &[Place], backward: &[bool]) -> i128
+pub(crate) fn bounds_along(edges: &SparseEdges, places: &[Place], backward: &[bool]) -> i128
     requires edges { AreNetEdges edges.now }
     requires steps { length backward.now ≡ length places.now }
     requires inside { All (λ place. place.0 < PLACES) places.now }
@@ -39,7 +40,7 @@ pub(crate) fn bounds_along(edges: &[Option<Edge>], places: &[Place], backward: &
 {
     let mut sum = 0;
     for (step, place) in places.iter().enumerate() {
-        sum += i128::from(walked_bound(edges[place.0 as usize], backward[step]));
+        sum += i128::from(walked_bound(edges.get(*place), backward[step]));
     }
     sum
 }

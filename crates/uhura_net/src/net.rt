@@ -9,6 +9,7 @@ ghost use Rattle.uhura_net.specs.declared.edge.End.TheVariants.{From, To};
 
 use crate::lists::Lists;
 use crate::moving::{bounds_along, move_units};
+use crate::sparse::SparseEdges;
 use crate::worth::{change_value, push_value};
 use crate::{Edge, End, PLACES, Place};
 use std::alloc::{AllocError, Global};
@@ -19,7 +20,7 @@ use std::marker::Model;
 /// leaves it and enters it. Only `new` takes memory.
 #[derive(Debug, Drop)]
 pub struct Net {
-    edges: Vec<Option<Edge>>,
+    edges: SparseEdges,
     units: Vec<u64>,
     pushes: u64,
     value: i128,
@@ -33,10 +34,10 @@ impl Model for Net {
     ghost Value = { NetState };
 
     ghost view = { λ net.
-        record { edges = net.edges.items; units = net.units.items; pushes = net.pushes } };
+        record { edges = net.edges; units = net.units.items; pushes = net.pushes } };
 
     ghost invariant = { λ net. IsKeptNet
-        (record { edges = net.edges.items; units = net.units.items; pushes = net.pushes })
+        (record { edges = net.edges; units = net.units.items; pushes = net.pushes })
         net.value net.leaving net.entering };
 }
 
@@ -47,7 +48,7 @@ impl Net {
         ensures sound { IfOk result IsNet }
     {
         Ok(Net {
-            edges: vec![in alloc; None; PLACES]?,
+            edges: SparseEdges::new(alloc)?,
             units: vec![in alloc; 0; PLACES]?,
             pushes: 0,
             value: 0,
@@ -65,10 +66,9 @@ impl Net {
         ensures net { self.new ≡ record self.old { edges = slice_set self.old.edges place.0 edge } }
         ensures sound { IsNet self.new }
     {
-        let at = place.0 as usize;
-        let units = self.units[at];
-        self.value = change_value(self.value, self.edges[at], edge, units);
-        self.edges[at] = edge;
+        let units = self.units[place.0 as usize];
+        self.value = change_value(self.value, self.edges.get(place), edge, units);
+        self.edges.put(place, edge);
         self.leaving.list(&self.edges, End::From, place);
         self.entering.list(&self.edges, End::To, place);
     }
@@ -80,7 +80,7 @@ impl Net {
         ensures there { IfSome result IsNetEdge }
         ensures sound { IsNet self.now }
     {
-        self.edges[place.0 as usize]
+        self.edges.get(place)
     }
 
     /// How many units the edge at a place carries.

@@ -1,15 +1,17 @@
 //! Edges by their places.
 ghost use Rattle.std.specs.Prelude.{◌≡◌, ◌<◌, Option, None, IfOk, IfSome, length, replicate, slice_index_or, slice_set};
+ghost use Rattle.uhura_net.specs.declared.place.TheConstants.{PLACES};
 ghost use Rattle.uhura_net.specs.Table.{IsEdgeFor};
 
-use crate::{Edge, PLACES, Place};
+use crate::sparse::SparseEdges;
+use crate::{Edge, Place};
 use std::alloc::{AllocError, Global};
 use std::marker::Model;
 
 /// A table with an edge, or none, at each place. Only `new` takes memory.
 #[derive(Debug, Drop)]
 pub struct EdgeTable {
-    edges: Vec<Option<Edge>>,
+    edges: SparseEdges,
 }
 
 impl Model for EdgeTable {
@@ -19,9 +21,9 @@ impl Model for EdgeTable {
 
     ghost Value = { List (Option Edge) };
 
-    ghost view = { λ table. table.edges.items };
+    ghost view = { λ table. table.edges };
 
-    ghost invariant = { λ table. IsTable table.edges.items };
+    ghost invariant = { λ table. IsTable table.edges };
 }
 
 impl EdgeTable {
@@ -30,7 +32,7 @@ impl EdgeTable {
         ensures { IfOk result (λ table. table ≡ replicate PLACES None) }
     {
         Ok(EdgeTable {
-            edges: vec![in alloc; None; PLACES]?,
+            edges: SparseEdges::new(alloc)?,
         })
     }
 
@@ -41,7 +43,7 @@ impl EdgeTable {
         ensures sound { IfSome result (IsEdgeFor place.0) }
         ensures places { length self.now ≡ PLACES }
     {
-        self.edges[place.0 as usize]
+        self.edges.get(place)
     }
 
     /// Puts an edge, or none, at a place. All other places stay.
@@ -51,6 +53,6 @@ impl EdgeTable {
         ensures edges { self.new ≡ slice_set self.old place.0 edge }
         ensures places { length self.old ≡ PLACES }
     {
-        self.edges[place.0 as usize] = edge;
+        self.edges.put(place, edge);
     }
 }

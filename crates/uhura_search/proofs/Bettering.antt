@@ -93,7 +93,7 @@ shut-bettered state store branch value (Some best) new prefix is_best is_branch 
     (shut-better state store best at.incumbent prefix better (λ begins. apart (subst (λ b. IsFrontOf prefix b) at.branch_is begins)) shut)
 
 -- a first one that passes is there where one passes
-is_some-find : (f : Veto → Bool) (vetoes : List Veto) → is_some (find f vetoes) ≡ list_any f vetoes
+pub is_some-find : (f : Veto → Bool) (vetoes : List Veto) → is_some (find f vetoes) ≡ list_any f vetoes
 is_some-find f [] = refl
 is_some-find f (v ∷ vetoes) = by (f v) refl (is_some-find f vetoes)
   where

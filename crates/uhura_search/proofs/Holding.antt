@@ -1,9 +1,10 @@
 -- What a searcher keeps true.
-use Rattle.std.proofs.Common.{◌≡◌, ℕ, Bool, true, false, true≢false, List, [], length, get_or, replicate, Option, Some, None, inl, inr, ap, sym, subst, refl, ◌∙◌, arith}
-use Rattle.std.specs.Prelude.{ℤ, IsTrue, IsSome, option_map}
+use Rattle.std.proofs.Common.{◌≡◌, ℕ, ◌<◌, Bool, true, false, true≢false, List, [], length, get_or, replicate, Option, Some, None, inl, inr, ap, sym, subst, refl, ◌∙◌, arith}
+use Rattle.std.specs.Prelude.{ℤ, IsTrue, IsSome, is_some, option_map}
 use Rattle.std.proofs.Math.ListN.{get_or-eq_default}
 use Rattle.std.proofs.lemmas.Bool.{cases_lt}
 use Rattle.std.proofs.lemmas.List.{length-replicate, get_or-replicate}
+use Rattle.std.proofs.lemmas.List.Elements.{All-nil}
 use Rattle.uhura_plan.specs.declared.guard.Literal.{Literal}
 use Rattle.uhura_plan.specs.declared.limits.TheConstants.{REQUIREMENTS}
 use Rattle.uhura_choice.specs.declared.prefix.Pick.{Pick}
@@ -28,7 +29,8 @@ use Rattle.uhura_search.specs.Guards.{HaveGuardsOf}
 use Rattle.uhura_search.specs.Held.{shown_as, IsHeldSearcher}
 use Rattle.uhura_search.specs.Known.{IsStoreFor}
 use Rattle.uhura_search.specs.Learning.{IsLearningFor}
-use Rattle.uhura_search.specs.Moving.{AreAmong}
+use Rattle.uhura_search.specs.Moving.{AreAmong, AreListed}
+use Rattle.uhura_search.specs.Taken.{IsOverTable}
 use Rattle.uhura_search.specs.Searcher.{Said, said, Searched, empty_searcher, IsSearcher, IsAsked}
 use Rattle.uhura_search.proofs.Guarded.{if-some, if-some-at, all-ask}
 
@@ -68,9 +70,18 @@ empty-searcher = record {
   blank = λ filled. refl;
 }
 
+none-listed : AreListed [] (replicate PLACES None)
+none-listed = record {
+  inside = All-nil (λ (place : ℕ). place < PLACES);
+  rising = λ i j d before inside. absurd (omega arith);
+  each = λ place some.
+      let none : edges_of (replicate PLACES None) place ≡ None = nothing-at PLACES place in
+      absurd (true≢false (sym some ∙ ap is_some none));
+}
+
 -- a searcher that was made without an edge, a conflict or a guard
 module _ (learning : Learning) (guards : List (List Literal)) (flow : learning.flow ≡ empty_flow) (store : learning.store ≡ empty_store) (table : learning.table ≡ replicate PLACES None)
-    (added : learning.added ≡ 0) (none : guards ≡ replicate REQUIREMENTS []) where
+    (places : learning.places ≡ []) (added : learning.added ≡ 0) (none : guards ≡ replicate REQUIREMENTS []) where
   pub shown-empty : shown_as learning guards None false false ≡ empty_searcher
   shown-empty =
       ap (λ (f : FlowState). made f learning.store learning.added guards) flow
@@ -82,12 +93,13 @@ module _ (learning : Learning) (guards : List (List Literal)) (flow : learning.f
   empty-held = record {
     sound = subst IsSearcher (sym shown-empty) empty-searcher;
     table = ap (λ (s : Stored). s.table) store ∙ sym table;
+    listed = subst (λ (ps : List ℕ). AreListed ps learning.table) (sym places) (subst (AreListed []) (sym table) none-listed);
   }
 
 -- a searcher that is filled for a state
 pub filled-held : (state : State) (learning : Learning) (guards : List (List Literal)) (answer : Option Outcome) (stands filled : Bool) → IsTrue filled → length guards ≡ REQUIREMENTS → HaveGuardsOf guards state.plan.requirements →
-    IsLearningFor state learning → (IsTrue stands → IsSome (option_map said answer)) → IsHeldSearcher learning guards answer stands filled
-filled-held state learning guards answer stands filled is_filled slots have kept given = record {
+    IsLearningFor state learning → AreListed learning.places learning.table → (IsTrue stands → IsSome (option_map said answer)) → IsHeldSearcher learning guards answer stands filled
+filled-held state learning guards answer stands filled is_filled slots have kept listed given = record {
   sound = record {
     store = kept.store.sound;
     slots = slots;
@@ -97,6 +109,15 @@ filled-held state learning guards answer stands filled is_filled slots have kept
     blank = λ not_filled. absurd (true≢false (sym is_filled ∙ not_filled));
   };
   table = kept.table;
+  listed = listed;
+}
+
+-- all that is kept is over the table
+pub over-table : (learning : Learning) (guards : List (List Literal)) (answer : Option Outcome) (stands filled : Bool) → IsHeldSearcher learning guards answer stands filled → IsOverTable learning
+over-table learning guards answer stands filled held = record {
+  table = held.table;
+  present = subst (λ (table : List (Option Edge)). AreAmong (flow_edges learning.flow) (edges_of table)) held.table held.sound.present;
+  listed = held.listed;
 }
 
 -- what a trim leaves was there

@@ -1,38 +1,25 @@
--- Edges that are taken out of a flow place by place.
-use Rattle.std.proofs.Common.{◌≡◌, ◌≢◌, ℕ, ◌+◌, ◌<◌, ◌≤◌, List, length, Option, None, Some, inl, inr, sym, subst, ◌∙◌, arith}
-use Rattle.std.proofs.Math.ListN.{get_or-eq_default}
-use Rattle.std.proofs.lemmas.Bool.{cases_lt}
+-- Edges that are taken out of a flow, place by place of a list.
+use Rattle.std.proofs.Common.{◌≡◌, ◌≢◌, ℕ, ◌+◌, ◌<◌, ◌≤◌, List, length, drop, get_or, Some, inl, inr, sym, subst, ◌∙◌}
+use Rattle.std.specs.Prelude.{Contains}
+use Rattle.std.proofs.lemmas.Bool.{cases_eq}
 use Rattle.uhura_net.specs.declared.edge.Edge.{Edge}
-use Rattle.uhura_net.specs.declared.place.TheConstants.{PLACES}
 use Rattle.uhura_net.specs.Edges.{Edges}
-use Rattle.uhura_net.specs.Circulation.{edges_of}
 use Rattle.uhura_search.specs.Moving.{AreAmong, HasAll}
+use Rattle.uhura_search.proofs.Refills.{rest-apart, rest-none}
 
--- the places so far have none but the edges of the table
-abbrev pub AreOfTableBelow : ℕ → Edges → Edges → Type 0
-AreOfTableBelow number held table = (place : ℕ) → place < number → HasAll held table place
+-- all places but those to come have none but the edges of the table
+abbrev pub AreOfTableBut : List ℕ → ℕ → Edges → Edges → Type 0
+AreOfTableBut places i held table = (place : ℕ) → (Contains (drop i places) place → ⊥) → HasAll held table place
 
 -- one place more
-pub of-table-more : (number : ℕ) (old new table : Edges) → AreOfTableBelow number old table →
-    ((place : ℕ) → place ≢ number → new place ≡ old place) → HasAll new table number → AreOfTableBelow (number + 1) new table
-of-table-more number old new table before others own place below edge is =
-    elim (cases_lt place number) [
-      | inl less ↦ before place less edge (sym (others place (λ same. omega (arith, less, same))) ∙ is)
-      | inr more ↦
-          let same : place ≡ number = omega (arith, below, more) in
-          subst (HasAll new table) (sym same) own edge is
+pub of-table-more : (places : List ℕ) (i : ℕ) (old new table : Edges) → i < length places → AreOfTableBut places i old table →
+    ((place : ℕ) → place ≢ get_or places i 0 → new place ≡ old place) → HasAll new table (get_or places i 0) → AreOfTableBut places (i + 1) new table
+of-table-more places i old new table inside before others own place apart edge is =
+    elim (cases_eq place (get_or places i 0)) [
+      | inl same ↦ subst (HasAll new table) (sym same) own edge is
+      | inr differs ↦ before place (rest-apart places i place inside differs apart) edge (sym (others place differs) ∙ is)
     ]
 
 -- all places have been passed
-outside : (held : List (Option Edge)) → length held ≡ PLACES → (place : ℕ) (edge : Edge) → PLACES ≤ place → edges_of held place ≡ Some edge → ⊥
-outside held places place edge more is =
-    let none : edges_of held place ≡ None = get_or-eq_default held None (omega (arith, places, more)) in
-    let never : Some edge ≡ None = sym is ∙ none in
-    cc
-
-pub of-table-all : (held : List (Option Edge)) (table : Edges) → length held ≡ PLACES → AreOfTableBelow PLACES (edges_of held) table → AreAmong (edges_of held) table
-of-table-all held table places below place edge is =
-    elim (cases_lt place PLACES) [
-      | inl less ↦ below place less edge is
-      | inr more ↦ absurd (outside held places place edge more is)
-    ]
+pub of-table-all : (places : List ℕ) (i : ℕ) (held table : Edges) → length places ≤ i → AreOfTableBut places i held table → AreAmong held table
+of-table-all places i held table past before place edge is = before place (rest-none places i place past) edge is

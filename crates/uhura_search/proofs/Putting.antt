@@ -35,6 +35,10 @@ AreAmongSo index places few all = (k d : ℕ) → k < index → k < length place
 abbrev pub AreThereSo : ℕ → List ℕ → Bool → Edges → Edges → Type 0
 AreThereSo index places loose held wanted = (k d : ℕ) → k < index → k < length places → is_loose_at (get_or places k d) ≡ loose → HasAll wanted held (get_or places k d)
 
+-- the listed places so far have the wanted edges
+abbrev pub AreAllSo : ℕ → List ℕ → Edges → Edges → Type 0
+AreAllSo index places held wanted = (k d : ℕ) → k < index → k < length places → HasAll wanted held (get_or places k d)
+
 -- what holds of the places so far and of the next one holds of one more
 so-more : (P : ℕ → Type 0) (places : List ℕ) (index : ℕ) → index < length places → ((k d : ℕ) → k < index → k < length places → P (get_or places k d)) → P (get_or places index 0) →
     (k d : ℕ) → k < index + 1 → k < length places → P (get_or places k d)
@@ -54,6 +58,17 @@ among-more places index old new wanted inside before others own =
     (λ k d below within. elim (cases_eq (get_or places k d) (get_or places index 0)) [
       | inl same ↦ subst (HasAll new wanted) (sym same) own
       | inr apart ↦ λ edge is. before k d below within edge (sym (others (get_or places k d) apart) ∙ is)
+    ])
+    own
+
+-- one place more, where the wanted edge is there
+pub all-more : (places : List ℕ) (index : ℕ) (old new wanted : Edges) → index < length places → AreAllSo index places old wanted →
+    ((place : ℕ) → place ≢ get_or places index 0 → new place ≡ old place) → HasAll wanted new (get_or places index 0) → AreAllSo (index + 1) places new wanted
+all-more places index old new wanted inside before others own =
+    so-more (HasAll wanted new) places index inside
+    (λ k d below within. elim (cases_eq (get_or places k d) (get_or places index 0)) [
+      | inl same ↦ subst (HasAll wanted new) (sym same) own
+      | inr apart ↦ λ edge is. others (get_or places k d) apart ∙ before k d below within edge is
     ])
     own
 
@@ -201,6 +216,16 @@ pub there-all : (table : List (Option Edge)) (places : List ℕ) (index : ℕ) (
     AreThereSo index places loose held (marked_edges table marks) → (place : ℕ) → is_loose_at place ≡ loose → HasAll (marked_edges table marks) held place
 there-all table places index marks loose held listed all so place kind edge is =
     listed-all (λ (p : ℕ). is_loose_at p ≡ loose → HasAll (marked_edges table marks) held p) table places index listed all so place edge (marked-table table marks place edge is) kind edge is
+
+pub all-all : (table : List (Option Edge)) (places : List ℕ) (index : ℕ) (marks : List Bool) (held : Edges) → AreListed places table → length places ≤ index → AreAllSo index places held (marked_edges table marks) →
+    AreAmong (marked_edges table marks) held
+all-all table places index marks held listed all so place edge is =
+    listed-all (HasAll (marked_edges table marks) held) table places index listed all so place edge (marked-table table marks place edge is) edge is
+
+-- what was taken out, where none is missing then
+pub whole-active : (a b : FlowState) (one other : Edges) → ((place : ℕ) → one place ≡ other place) → AreAmong (flow_edges b) one → AreAmong one (flow_edges b) → IsUnsettled a b → HasMoved a b other
+whole-active a b one other same among whole unsettled =
+    record { edges = λ place. same-edge (flow_edges b place) (one place) (among place) (whole place) ∙ same place; unsettled = unsettled }
 
 -- what was taken out, and put in twice
 pub put-active : (a b c d : FlowState) (one other : Edges) (moved : Moved) → ((place : ℕ) → one place ≡ other place) → IsUnsettled a b → HasPutIn b c one true → IsPutIn c d one false moved → IsMoved a d other moved

@@ -30,11 +30,11 @@ learning-kept state a b is keeps present = record {
   present = λ place edge there. ap (λ (t : List (Option Edge)). edges_of t place) keeps.table ∙ present place edge there;
 }
 
-pub ready-kept : (state : State) (a b : Learning) → IsReady state a → KeepsLearned a b → b.places.items ≡ a.places.items → AreAmong (flow_edges b.flow) (edges_of a.table) → b.flow.settles < 2 ^ 64 → IsReady state b
+pub ready-kept : (state : State) (a b : Learning) → IsReady state a → KeepsLearned a b → b.places ≡ a.places → AreAmong (flow_edges b.flow) (edges_of a.table) → b.flow.settles < 2 ^ 64 → IsReady state b
 ready-kept state a b ready keeps places present small = record {
   sound = ready.sound;
   kept = learning-kept state a b ready.kept keeps present;
-  listed = subst (λ (t : List (Option Edge)). AreListed b.places.items t) (sym keeps.table) (subst (λ (ps : List ℕ). AreListed ps a.table) (sym places) ready.listed);
+  listed = subst (λ (t : List (Option Edge)). AreListed b.places t) (sym keeps.table) (subst (λ (ps : List ℕ). AreListed ps a.table) (sym places) ready.listed);
   bounds = subst HasFlowBounds (sym keeps.table) ready.bounds;
   counts = record { added = subst (λ (n : ℕ). n < 2 ^ 64) (sym keeps.added) ready.counts.added; settles = small };
 }
@@ -65,7 +65,7 @@ pub ready-added : (state : State) (b c : Learning) (branch : List Pick) (conflic
 ready-added state b c branch conflict ready has = record {
   sound = ready.sound;
   kept = learning-added state b c branch conflict ready.kept has;
-  listed = subst (λ (t : List (Option Edge)). AreListed c.places.items t) (sym has.table) (subst (λ (ps : List ℕ). AreListed ps b.table) (sym has.places) ready.listed);
+  listed = subst (λ (t : List (Option Edge)). AreListed c.places t) (sym has.table) (subst (λ (ps : List ℕ). AreListed ps b.table) (sym has.places) ready.listed);
   bounds = subst HasFlowBounds (sym has.table) ready.bounds;
   counts = record {
     added = subst (λ (n : ℕ). n < 2 ^ 64) (sym has.added) (raised-small 1 b.added);

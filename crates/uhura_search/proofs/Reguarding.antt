@@ -1,81 +1,30 @@
--- Tables without the edges of slots that have another guard.
-use Rattle.std.proofs.Common.{◌≡◌, ◌≢◌, ◌⊎◌, ℕ, ◌<◌, ◌∷◌, ◌++◌, [], Bool, true, false, true≢false, List, length, take, get_or, set, Option, Some, None, inl, inr, refl, sym, ap, subst, ◌∙◌, arith, AllPairs, length-take-le}
-use Rattle.std.specs.Prelude.{Contains, if◌then◌else◌, nat_eq, slice_get}
+-- Guards that are written slot by slot, with a mark where a slot had another.
+use Rattle.std.proofs.Common.{◌≡◌, ◌≢◌, ◌⊎◌, ℕ, ◌<◌, ◌∷◌, ◌++◌, [], Bool, true, false, List, length, take, get_or, set, replicate, Option, Some, None, inl, inr, refl, sym, ap, subst, ◌∙◌, arith, AllPairs, length-take-le, length-set, get_or-set_same, get_or-set_other}
+use Rattle.std.specs.Prelude.{Contains, IsFalse, slice_get, ◌==◌, if◌then◌else◌, option_and_then}
+use Rattle.std.specs.Bool.{MatchBool}
+use Rattle.std.proofs.lemmas.Bool.{cases_eq}
 use Rattle.std.proofs.lemmas.Bool.Decides.{Decides-eqb}
-use Rattle.std.proofs.lemmas.List.{get_or-set_same, get_or-set_other, get_or-take, get_or-map, length-map}
+use Rattle.std.proofs.lemmas.List.{get_or-take, get_or-map, length-map, length-replicate}
 use Rattle.std.proofs.lemmas.List.Elements.{Contains-push, Contains-push_cases, Contains-append_left}
 use Rattle.std.proofs.lemmas.Option.{slice_get_within, get_or_from_slice_get}
 use Rattle.uhura_plan.specs.declared.guard.Literal.{Literal}
+use Rattle.uhura_plan.specs.declared.limits.TheConstants.{REQUIREMENTS}
 use Rattle.uhura_plan.specs.declared.requirement.Requirement.{Requirement}
 use Rattle.uhura_plan.specs.declared.key.Item.{Item}
 use Rattle.uhura_plan.specs.declared.key.Item.TheVariants as item
 use Rattle.uhura_plan.specs.declared.key.EdgeKey.{EdgeKey}
-use Rattle.uhura_plan.specs.Keys.{is_same_item}
-use Rattle.uhura_plan.specs.Lists.{slots}
+use Rattle.uhura_plan.specs.Lists.{Lists, slots}
+use Rattle.uhura_plan.specs.Find.{requirement_in}
+use Rattle.uhura_plan.proofs.Slots.{get_or-replicate_default}
 use Rattle.uhura_net.specs.declared.edge.Edge.{Edge}
-use Rattle.uhura_worst.specs.Edges.{item_of}
-use Rattle.uhura_worst.specs.Filled.{entry_at, PutsItem}
-use Rattle.uhura_worst.proofs.FirstItems.{slot_at}
+use Rattle.uhura_veto.specs.declared.veto.Veto.{Veto}
+use Rattle.uhura_worst.specs.Edges.{item_of, edge_among, requirement_edge, tables_under}
+use Rattle.uhura_worst.specs.Filled.{entry_at, IsFilledBy}
+use Rattle.uhura_worst.proofs.FirstItems.{slot_at, passes}
 use Rattle.uhura_conflict.specs.Literals.{slot_of, slot_of_item}
 use Rattle.uhura_search.proofs.Shown.{slot-item}
-use Rattle.uhura_search.specs.Guards.{guard_at, HaveGuardsOf, HasSameGuard, HasOtherGuard, IsWithoutReguarded, WritesGuard}
-
--- a guard that is written where it stands changes nothing
-pub writes-same : (guards : List (List Literal)) (table : List (Option Edge)) (slot : ℕ) (guard : List Literal) → guard_at guards slot ≡ guard → WritesGuard guards guards table table slot guard
-writes-same guards table slot guard is = record { own = is; others = λ other differs. refl; table = λ key placed. inl (λ at of_slot. refl, refl) }
-
-module _ (guards : List (List Literal)) (slot : ℕ) (guard : List Literal) (inside : slot < length guards) where
-  own-guard : guard_at (set guards slot guard) slot ≡ guard
-  own-guard = get_or-set_same guards slot guard [] inside
-
-  other-guards : (other : ℕ) → other ≢ slot → guard_at (set guards slot guard) other ≡ guard_at guards other
-  other-guards other differs = get_or-set_other guards slot other guard [] differs
-
-  module _ (before after : List (Option Edge)) (differs : guard_at guards slot ≡ guard → ⊥) (empties : PutsItem (item.Requirement slot) (λ key. None) before after) where
-    at-item : (key : EdgeKey) (of : Item) → slot_of key ≡ slot_of_item of → entry_at after key ≡ (if is_same_item (item.Requirement slot) of then None else entry_at before key) →
-        (HasSameGuard guards (set guards slot guard) key × (entry_at after key ≡ entry_at before key)) ⊎ (HasOtherGuard guards (set guards slot guard) key × (entry_at after key ≡ None))
-    at-item key (item.Uncertain d) of is = inl (λ at of_slot. absurd (let never : ⊥ = cc in never), is)
-    at-item key (item.Requirement other) of is = by (nat_eq slot other) refl is
-      where
-        by : (b : Bool) → nat_eq slot other ≡ b → entry_at after key ≡ (if b then None else entry_at before key) →
-            (HasSameGuard guards (set guards slot guard) key × (entry_at after key ≡ entry_at before key)) ⊎ (HasOtherGuard guards (set guards slot guard) key × (entry_at after key ≡ None))
-        by true same gone =
-            let here : slot ≡ other = (Decides-eqb slot other).0 same in
-            inr (record { slot = slot; of_slot = of ∙ ap (λ (n : ℕ). Some n) (sym here); other = λ kept. differs (sym kept ∙ own-guard) }, gone)
-        by false elsewhere kept =
-            inl (
-              λ at of_slot.
-                  let same : at ≡ other = cc in
-                  other-guards at (λ is_slot. true≢false (sym ((Decides-eqb slot other).1 (sym is_slot ∙ same)) ∙ elsewhere)),
-              kept,
-            )
-
-    -- another guard is written at a slot, and its edges go
-    pub writes-other : WritesGuard guards (set guards slot guard) before after slot guard
-    writes-other = record {
-      own = own-guard;
-      others = other-guards;
-      table = λ key placed. at-item key (item_of key) (slot-item key) (empties key placed);
-    }
-
--- A step that writes a guard at a slot that had its first guard until then.
-module _ (g0 g1 g2 : List (List Literal)) (t0 t1 t2 : List (Option Edge)) (slot : ℕ) (untouched : guard_at g1 slot ≡ guard_at g0 slot) (others : (other : ℕ) → other ≢ slot → guard_at g2 other ≡ guard_at g1 other) where
-  by-key : (key : EdgeKey) →
-      (HasSameGuard g0 g1 key × (entry_at t1 key ≡ entry_at t0 key)) ⊎ (HasOtherGuard g0 g1 key × (entry_at t1 key ≡ None)) →
-      (HasSameGuard g1 g2 key × (entry_at t2 key ≡ entry_at t1 key)) ⊎ (HasOtherGuard g1 g2 key × (entry_at t2 key ≡ None)) →
-      (HasSameGuard g0 g2 key × (entry_at t2 key ≡ entry_at t0 key)) ⊎ (HasOtherGuard g0 g2 key × (entry_at t2 key ≡ None))
-  by-key key (inl a) (inl b) = inl (λ at of_slot. b.0 at of_slot ∙ a.0 at of_slot, b.1 ∙ a.1)
-  by-key key (inl a) (inr b) =
-      inr (record { slot = b.0.slot; of_slot = b.0.of_slot; other = λ same. b.0.other (same ∙ sym (a.0 b.0.slot b.0.of_slot)) }, b.1)
-  by-key key (inr a) (inl b) =
-      inr (record { slot = a.0.slot; of_slot = a.0.of_slot; other = λ same. a.0.other (sym (b.0 a.0.slot a.0.of_slot) ∙ same) }, b.1 ∙ a.1)
-  by-key key (inr a) (inr b) =
-      let one : Some a.0.slot ≡ Some b.0.slot = sym a.0.of_slot ∙ b.0.of_slot in
-      let same : a.0.slot ≡ b.0.slot = cc in
-      absurd (b.0.other (others b.0.slot (λ is. a.0.other (ap (guard_at g1) (same ∙ is) ∙ untouched ∙ ap (guard_at g0) (sym (same ∙ is))))))
-
-  pub without-more : IsWithoutReguarded g0 g1 t0 t1 → IsWithoutReguarded g1 g2 t1 t2 → IsWithoutReguarded g0 g2 t0 t2
-  without-more first second key placed = by-key key (first key placed) (second key placed)
+use Rattle.uhura_search.specs.Guards.{guard_at, HaveGuardsOf, HasSameGuard, HasOtherGuard, IsWithoutReguarded}
+use Rattle.uhura_search.specs.Refilled.{is_marked_slot, AreReguarded, IsNoneMarked, tables_without}
 
 -- no requirement before one has its slot
 pub slot-new : (requirements : List Requirement) (i : ℕ) (r q : Requirement) → AllPairs ◌≢◌ (slots requirements) → slice_get requirements i ≡ Some r → Contains (take i requirements) q → q.slot ≢ r.slot
@@ -90,34 +39,133 @@ slot-new requirements i r q distinct is (k, below, there) named =
     distinct k i r.slot before (omega (arith, within, length-map requirements (λ (p : Requirement). p.slot))) (first ∙ sym second)
 
 -- the guards of the first requirements are written, those of slots that none of them has are as they were, and the
--- edges of the slots that have another guard are gone
-pub record AreWritten (requirements : List Requirement) (old new : List (List Literal)) (before after : List (Option Edge)) : Type 0 where
+-- slots that have another guard are marked
+pub record AreWritten (requirements : List Requirement) (old new : List (List Literal)) (marks : List Bool) : Type 0 where
   pub written : HaveGuardsOf new requirements
   pub untouched : (slot : ℕ) → ((r : Requirement) → Contains requirements r → r.slot ≢ slot) → guard_at new slot ≡ guard_at old slot
-  pub table : IsWithoutReguarded old new before after
+  pub marked : AreReguarded old new marks
+  pub slots : length new ≡ REQUIREMENTS
+  pub many : length marks ≡ REQUIREMENTS
 
 none-in : (r : Requirement) → Contains [] r → ⊥
 none-in r (k, below, is) = absurd (omega (arith, below))
 
-pub written-none : (guards : List (List Literal)) (table : List (Option Edge)) → AreWritten [] guards guards table table
-written-none guards table = record {
+pub none-marked : (marks : List Bool) → marks ≡ replicate REQUIREMENTS false → IsNoneMarked marks
+none-marked marks is slot = ap (λ (xs : List Bool). is_marked_slot xs slot) is ∙ get_or-replicate_default REQUIREMENTS slot false
+
+pub written-none : (guards : List (List Literal)) (marks : List Bool) → length guards ≡ REQUIREMENTS → marks ≡ replicate REQUIREMENTS false → AreWritten [] guards guards marks
+written-none guards marks slots none = record {
   written = λ r there. absurd (none-in r there);
   untouched = λ slot differ. refl;
-  table = λ key placed. inl (λ at of_slot. refl, refl);
+  marked = λ slot. subst (λ (b : Bool). MatchBool b (guard_at guards slot ≢ guard_at guards slot) (guard_at guards slot ≡ guard_at guards slot)) (sym (none-marked marks none slot)) refl;
+  slots = slots;
+  many = ap (λ (xs : List Bool). length xs) none ∙ length-replicate REQUIREMENTS false;
 }
 
-module _ (requirements : List Requirement) (r : Requirement) (g0 g1 g2 : List (List Literal)) (t0 t1 t2 : List (Option Edge)) (new : (q : Requirement) → Contains requirements q → q.slot ≢ r.slot) (written : AreWritten requirements g0 g1 t0 t1) (writes : WritesGuard g1 g2 t1 t2 r.slot r.guard) where
+-- one requirement more, whose slot has its first guard until then
+module _ (requirements : List Requirement) (r : Requirement) (g0 g1 g2 : List (List Literal)) (m1 m2 : List Bool) (differs : Bool) (new : (q : Requirement) → Contains requirements q → q.slot ≢ r.slot)
+    (written : AreWritten requirements g0 g1 m1) (inside : r.slot < REQUIREMENTS) (is_guards : g2 ≡ set g1 r.slot r.guard) (is_marks : m2 ≡ set m1 r.slot differs)
+    (decides : MatchBool differs (guard_at g1 r.slot ≢ r.guard) (guard_at g1 r.slot ≡ r.guard)) where
+  own : guard_at g2 r.slot ≡ r.guard
+  own = ap (λ (gs : List (List Literal)). guard_at gs r.slot) is_guards ∙ get_or-set_same g1 r.slot r.guard [] (omega (arith, inside, written.slots))
+
+  others : (other : ℕ) → other ≢ r.slot → guard_at g2 other ≡ guard_at g1 other
+  others other apart = ap (λ (gs : List (List Literal)). guard_at gs other) is_guards ∙ get_or-set_other g1 r.slot other r.guard [] apart
+
+  own-mark : is_marked_slot m2 r.slot ≡ differs
+  own-mark = ap (λ (ms : List Bool). is_marked_slot ms r.slot) is_marks ∙ get_or-set_same m1 r.slot differs false (omega (arith, inside, written.many))
+
+  other-marks : (other : ℕ) → other ≢ r.slot → is_marked_slot m2 other ≡ is_marked_slot m1 other
+  other-marks other apart = ap (λ (ms : List Bool). is_marked_slot ms other) is_marks ∙ get_or-set_other m1 r.slot other differs false apart
+
+  before : guard_at g1 r.slot ≡ guard_at g0 r.slot
+  before = written.untouched r.slot new
+
+  decided : (b : Bool) → MatchBool b (guard_at g1 r.slot ≢ r.guard) (guard_at g1 r.slot ≡ r.guard) → MatchBool b (guard_at g2 r.slot ≢ guard_at g0 r.slot) (guard_at g2 r.slot ≡ guard_at g0 r.slot)
+  decided true apart = λ same. apart (before ∙ sym same ∙ own)
+  decided false same = own ∙ sym same ∙ before
+
+  still : (b : Bool) (slot : ℕ) → guard_at g2 slot ≡ guard_at g1 slot → MatchBool b (guard_at g1 slot ≢ guard_at g0 slot) (guard_at g1 slot ≡ guard_at g0 slot) → MatchBool b (guard_at g2 slot ≢ guard_at g0 slot) (guard_at g2 slot ≡ guard_at g0 slot)
+  still true slot kept apart = λ is. apart (sym kept ∙ is)
+  still false slot kept same = kept ∙ same
+
+  marked-at : (slot : ℕ) → MatchBool (is_marked_slot m2 slot) (guard_at g2 slot ≢ guard_at g0 slot) (guard_at g2 slot ≡ guard_at g0 slot)
+  marked-at slot = elim (cases_eq slot r.slot) [
+    | inl same ↦
+        subst (λ (n : ℕ). MatchBool (is_marked_slot m2 n) (guard_at g2 n ≢ guard_at g0 n) (guard_at g2 n ≡ guard_at g0 n)) (sym same)
+        (subst (λ (b : Bool). MatchBool b (guard_at g2 r.slot ≢ guard_at g0 r.slot) (guard_at g2 r.slot ≡ guard_at g0 r.slot)) (sym own-mark) (decided differs decides))
+    | inr apart ↦
+        subst (λ (b : Bool). MatchBool b (guard_at g2 slot ≢ guard_at g0 slot) (guard_at g2 slot ≡ guard_at g0 slot)) (sym (other-marks slot apart))
+        (still (is_marked_slot m1 slot) slot (others slot apart) (written.marked slot))
+  ]
+
   written-at : HaveGuardsOf g2 (requirements ++ r ∷ [])
   written-at q there =
       elim (Contains-push_cases requirements r q there) [
-        | inl before ↦ writes.others q.slot (new q before) ∙ written.written q before
-        | inr last ↦ subst (λ (p : Requirement). guard_at g2 p.slot ≡ p.guard) last writes.own
+        | inl earlier ↦ others q.slot (new q earlier) ∙ written.written q earlier
+        | inr last ↦ subst (λ (p : Requirement). guard_at g2 p.slot ≡ p.guard) last own
       ]
 
-  pub written-more : AreWritten (requirements ++ r ∷ []) g0 g2 t0 t2
+  pub written-more : AreWritten (requirements ++ r ∷ []) g0 g2 m2
   written-more = record {
     written = written-at;
     untouched = λ slot differ.
-        writes.others slot (λ is. differ r (Contains-push requirements r) (sym is)) ∙ written.untouched slot (λ q before. differ q (Contains-append_left requirements (r ∷ []) q before));
-    table = without-more g0 g1 g2 t0 t1 t2 r.slot (written.untouched r.slot new) writes.others written.table writes.table;
+        others slot (λ is. differ r (Contains-push requirements r) (sym is)) ∙ written.untouched slot (λ q earlier. differ q (Contains-append_left requirements (r ∷ []) q earlier));
+    marked = marked-at;
+    slots = ap (λ (gs : List (List Literal)). length gs) is_guards ∙ length-set g1 r.slot r.guard ∙ written.slots;
+    many = ap (λ (ms : List Bool). length ms) is_marks ∙ length-set m1 r.slot differs ∙ written.many;
   }
+
+  -- and none is marked, where none was
+  pub none-more : differs ≡ false → IsNoneMarked m1 → IsNoneMarked m2
+  none-more same none slot = elim (cases_eq slot r.slot) [
+    | inl is ↦ ap (is_marked_slot m2) is ∙ own-mark ∙ same
+    | inr apart ↦ other-marks slot apart ∙ none slot
+  ]
+
+-- A table that is filled without the marked slots, and one that is filled with them.
+module _ (marks : List Bool) (vetoes : List Veto) (plan : Lists) where
+  without-slot : (key : EdgeKey) (slot : ℕ) →
+      edge_among (tables_without marks vetoes) plan key (item.Requirement slot) ≡ (if is_marked_slot marks slot then None else edge_among (tables_under vetoes) plan key (item.Requirement slot))
+  without-slot key slot = by (requirement_in plan slot) refl (is_marked_slot marks slot) refl
+    where
+      by : (o : Option Requirement) → requirement_in plan slot ≡ o → (b : Bool) → is_marked_slot marks slot ≡ b →
+          option_and_then (λ (r : Requirement). if is_marked_slot marks r.slot then None else requirement_edge vetoes r key) o ≡ (if b then None else option_and_then (λ (r : Requirement). requirement_edge vetoes r key) o)
+      by None found true is = refl
+      by None found false is = refl
+      by (Some r) found b is =
+          let named : r.slot ≡ slot = (Decides-eqb r.slot slot).0 (passes (λ (p : Requirement). p.slot == slot) plan.requirements r found) in
+          ap (λ (m : Bool). if m then None else requirement_edge vetoes r key) (ap (is_marked_slot marks) named ∙ is)
+          ∙ chosen b
+        where
+          chosen : (b : Bool) → (if b then None else requirement_edge vetoes r key) ≡ (if b then None else option_and_then (λ (q : Requirement). requirement_edge vetoes q key) (Some r))
+          chosen true = refl
+          chosen false = refl
+
+  -- where no slot is marked, both are one
+  pub filled-whole : (table : List (Option Edge)) → IsNoneMarked marks → IsFilledBy (tables_without marks vetoes) plan table → IsFilledBy (tables_under vetoes) plan table
+  filled-whole table none filled key placed = filled key placed ∙ by (item_of key)
+    where
+      by : (of : Item) → edge_among (tables_without marks vetoes) plan key of ≡ edge_among (tables_under vetoes) plan key of
+      by (item.Uncertain d) = refl
+      by (item.Requirement slot) = without-slot key slot ∙ ap (λ (b : Bool). if b then None else edge_among (tables_under vetoes) plan key (item.Requirement slot)) (none slot)
+
+  module _ (old new : List (List Literal)) (without whole : List (Option Edge)) (marked : AreReguarded old new marks) (is_without : IsFilledBy (tables_without marks vetoes) plan without) (is_whole : IsFilledBy (tables_under vetoes) plan whole) where
+    at-item : (key : EdgeKey) (of : Item) → slot_of key ≡ slot_of_item of → entry_at without key ≡ edge_among (tables_without marks vetoes) plan key of → entry_at whole key ≡ edge_among (tables_under vetoes) plan key of →
+        (HasSameGuard old new key × (entry_at without key ≡ entry_at whole key)) ⊎ (HasOtherGuard old new key × (entry_at without key ≡ None))
+    at-item key (item.Uncertain d) of one other = inl (λ at of_slot. absurd (let never : ⊥ = cc in never), one ∙ sym other)
+    at-item key (item.Requirement slot) of one other = by (is_marked_slot marks slot) (marked slot) (one ∙ without-slot key slot)
+      where
+        by : (b : Bool) → MatchBool b (guard_at new slot ≢ guard_at old slot) (guard_at new slot ≡ guard_at old slot) →
+            entry_at without key ≡ (if b then None else edge_among (tables_under vetoes) plan key (item.Requirement slot)) →
+            (HasSameGuard old new key × (entry_at without key ≡ entry_at whole key)) ⊎ (HasOtherGuard old new key × (entry_at without key ≡ None))
+        by true apart gone = inr (record { slot = slot; of_slot = of; other = apart }, gone)
+        by false same there = inl (
+          λ at of_slot.
+              let here : slot ≡ at = cc in
+              subst (λ (n : ℕ). guard_at new n ≡ guard_at old n) here same,
+          there ∙ sym other,
+        )
+
+    pub without-reguarded : IsWithoutReguarded old new whole without
+    without-reguarded key placed = at-item key (item_of key) (slot-item key) (is_without key placed) (is_whole key placed)

@@ -46,8 +46,8 @@ pub among-settled : (state : State) (learning : Learning) (branch : List Pick) (
 among-settled state learning branch few ready among place edge is =
     let table = learning.table in
     let there : edges_of table place ≡ Some edge = among-table table state.plan branch place edge (among place edge is) in
-    let listed : Contains learning.places.items place = ready.listed.each place (subst (λ (o : Option Edge). IsSome o) (sym there) refl) in
-    let below : place < PLACES = All-contains (λ (p : ℕ). p < PLACES) learning.places.items place ready.listed.inside listed in
+    let listed : Contains learning.places place = ready.listed.each place (subst (λ (o : Option Edge). IsSome o) (sym there) refl) in
+    let below : place < PLACES = All-contains (λ (p : ℕ). p < PLACES) learning.places place ready.listed.inside listed in
     record {
       key = key_at place;
       stands = key-stands place below;

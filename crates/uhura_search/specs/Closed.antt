@@ -1,5 +1,5 @@
 -- Which branches are closed: a prefix of theirs is.
-use Rattle.std.specs.Prelude.{◌≡◌, List}
+use Rattle.std.specs.Prelude.{◌≡◌, ◌<◌, ℕ, List, length}
 use Rattle.uhura_plan.specs.declared.choice.Choice.{Choice}
 use Rattle.uhura_choice.specs.declared.prefix.Pick.{Pick}
 use Rattle.uhura_choice.specs.Branch.{IsBranch}
@@ -32,3 +32,8 @@ pub record IsShortestFront (Shut : Prefixes) (branch prefix : List Pick) : Type 
 -- none of them begins the branch
 abbrev pub NoneBegins : Prefixes → List Pick → Type 0
 NoneBegins Shut branch = (front : List Pick) → IsFrontOf front branch → Shut front → ⊥
+
+-- none of them with fewer picks begins the branch
+abbrev pub NoneBelow : Prefixes → List Pick → ℕ → Type 0
+NoneBelow Shut branch least =
+    (front : List Pick) → IsFrontOf front branch → length front < least → Shut front → ⊥

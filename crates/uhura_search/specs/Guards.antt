@@ -54,13 +54,6 @@ IsWithoutReguarded old new all table = (key : EdgeKey) → HasPlace key →
     (HasSameGuard old new key × (entry_at table key ≡ entry_at all key))
     ⊎ (HasOtherGuard old new key × (entry_at table key ≡ None))
 
--- The guard is written at a slot, and the edges of that slot go where it had another.
-pub record WritesGuard (old new : List (List Literal)) (before after : List (Option Edge))
-    (slot : ℕ) (guard : List Literal) : Type 0 where
-  pub own : guard_at new slot ≡ guard
-  pub others : (other : ℕ) → other ≢ slot → guard_at new other ≡ guard_at old other
-  pub table : IsWithoutReguarded old new before after
-
 -- each conflict of a store asks for what the guards say
 abbrev pub AllAskForGuards : List (List Literal) → Stored → Type 0
 AllAskForGuards guards store = (key : ℕ) → IfSome (conflict_at store key) (AsksForGuards guards)

@@ -3,6 +3,7 @@ use Rattle.std.specs.Prelude.{◌≡◌, ◌≤◌, IsTrue, IsFalse, Bool, List,
 use Rattle.uhura_plan.specs.declared.guard.Literal.{Literal}
 use Rattle.uhura_search.specs.declared.learning.Learning.{Learning}
 use Rattle.uhura_search.specs.declared.outcome.Outcome.{Outcome}
+use Rattle.uhura_search.specs.Moving.{AreListed}
 use Rattle.uhura_search.specs.Searcher.{Searched, said, IsSearcher, KeepsNothing}
 
 abbrev pub shown_as :
@@ -18,11 +19,12 @@ shown_as learning guards answer stands filled = record {
   filled = filled;
 }
 
--- a searcher is sound, and its store is over its table
+-- a searcher is sound, its store is over its table, and the places that have an edge there are listed
 pub record IsHeldSearcher (learning : Learning) (guards : List (List Literal))
     (answer : Option Outcome) (stands filled : Bool) : Type 0 where
   pub sound : IsSearcher (shown_as learning guards answer stands filled)
   pub table : learning.store.table ≡ learning.table
+  pub listed : AreListed learning.places learning.table
 
 -- the table is filled for a first question, before which nothing was kept
 pub record HasBegun (old new : Searched) : Type 0 where

@@ -37,7 +37,7 @@ pub record AreCounts (learning : Learning) : Type 0 where
 pub record IsReady (state : State) (learning : Learning) : Type 0 where
   pub sound : IsSound state.plan
   pub kept : IsLearningFor state learning
-  pub listed : AreListed learning.places.items learning.table
+  pub listed : AreListed learning.places learning.table
   pub bounds : HasFlowBounds learning.table
   pub counts : AreCounts learning
 
@@ -61,7 +61,7 @@ pub record HasAddedAt (plan : Lists) (old new : Learning) (branch : List Pick) (
   pub added : new.added ≡ raised 1 old.added
   pub flow : new.flow ≡ old.flow
   pub table : new.table ≡ old.table
-  pub places : new.places.items ≡ old.places.items
+  pub places : new.places ≡ old.places
 
 -- what is known is below a value
 abbrev pub IsBelow : Bound → ℤ → Type 0

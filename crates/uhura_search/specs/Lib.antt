@@ -4,11 +4,15 @@ pub mod Asked
 pub mod Bounds
 pub mod Closed
 pub mod Fronts
+pub mod Going
 pub mod Guards
 pub mod Held
 pub mod Known
 pub mod Learning
 pub mod Moving
+pub mod Places
+pub mod Refilled
 pub mod Revised
 pub mod Searcher
 pub mod Shut
+pub mod Taken

@@ -57,7 +57,7 @@ pub(crate) fn add_stuck(
 ) -> Result<(), AllocError>
     requires is_branch { IsBranch plan.now.choices branch.now }
     requires table { learning.old.store.table ≡ learning.old.table }
-    requires listed { AreListed learning.old.places.items learning.old.table }
+    requires listed { AreListed learning.old.places learning.old.table }
     requires walk { (edges : Edges)
         × AreAmong edges (active_edges learning.old.table plan.now branch.now)
         × IsNegativeWalk (firm_edges edges) learning.old.flow.cycle }
@@ -81,7 +81,7 @@ fn add_flow(
 ) -> Result<(), AllocError>
     requires is_branch { IsBranch plan.now.choices branch.now }
     requires table { learning.old.store.table ≡ learning.old.table }
-    requires listed { AreListed learning.old.places.items learning.old.table }
+    requires listed { AreListed learning.old.places learning.old.table }
     requires among { AreAmong (flow_edges learning.old.flow)
         (active_edges learning.old.table plan.now branch.now) }
     requires more { IsWorthMore learning.old.store branch.now (net_value learning.old.flow.net) }
@@ -119,7 +119,7 @@ pub(crate) fn note_flow(
 ) -> Result<(), AllocError>
     requires is_branch { IsBranch plan.now.choices branch.now }
     requires table { learning.old.store.table ≡ learning.old.table }
-    requires listed { AreListed learning.old.places.items learning.old.table }
+    requires listed { AreListed learning.old.places learning.old.table }
     requires among { AreAmong (flow_edges learning.old.flow)
         (active_edges learning.old.table plan.now branch.now) }
     requires counts { AreCounts learning.old }

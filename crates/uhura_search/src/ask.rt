@@ -6,12 +6,12 @@ ghost use Rattle.uhura_search.specs.Answer.{IsAnswerTo, shown_leaves};
 ghost use Rattle.uhura_search.specs.Known.{answer_of};
 ghost use Rattle.uhura_search.specs.Asked.{LearnsOrStops, AreEntered, LeavesEntered, IsLeftSolved};
 ghost use Rattle.uhura_search.specs.Learning.{IsLearningFor, AreCounts, IsReady, IsReachedAt};
+ghost use Rattle.uhura_search.specs.Moving.{AreListed};
 
 use crate::closing::close_all;
 use crate::cover::leaves_of;
 use crate::incumbent::Incumbent;
 use crate::learning::Learning;
-use crate::moving::list_places;
 use crate::solving::solve;
 use crate::trying::copy_of;
 use crate::{LeafNote, Outcome};
@@ -29,7 +29,8 @@ pub(crate) fn ask(
     plan: &Plan,
     vetoes: &Vetoes,
 ) -> Result<Outcome, AllocError>
-    requires { IsLearningFor (record { plan = plan.now; vetoes = vetoes.now }) learning.old }
+    requires known { IsLearningFor (record { plan = plan.now; vetoes = vetoes.now }) learning.old }
+    requires listed { AreListed learning.old.places learning.old.table }
     ensures answer { let state : State = record { plan = plan.now; vetoes = vetoes.now } in
         IfOk result (IsAnswerTo state) }
     ensures solved { let state : State = record { plan = plan.now; vetoes = vetoes.now } in
@@ -37,8 +38,9 @@ pub(crate) fn ask(
     ensures asked { LearnsOrStops plan.now.choices learning.old learning.new }
     ensures entered { IfOk result (LeavesEntered learning.new.store) }
     ensures kept { IsLearningFor (record { plan = plan.now; vetoes = vetoes.now }) learning.new }
+    ensures listed { AreListed learning.new.places learning.new.table }
 {
-    make_ready(learning, plan, vetoes)?;
+    make_ready(learning, plan, vetoes);
     let best = close_all(learning, alloc, plan, vetoes)?;
     let leaves = leaves_of(alloc, plan, vetoes, &learning.store, &best)?;
     match best {
@@ -47,22 +49,21 @@ pub(crate) fn ask(
     }
 }
 
-/// Lists the places that have an edge, over which the flow is moved.
-fn make_ready(learning: &mut Learning, plan: &Plan, vetoes: &Vetoes) -> Result<(), AllocError>
-    requires { IsLearningFor (record { plan = plan.now; vetoes = vetoes.now }) learning.old }
+/// Begins a question: the flow stands nowhere on the way to a branch.
+fn make_ready(learning: &mut Learning, plan: &Plan, vetoes: &Vetoes)
+    requires known { IsLearningFor (record { plan = plan.now; vetoes = vetoes.now }) learning.old }
+    requires listed { AreListed learning.old.places learning.old.table }
     ensures counts { AreCounts learning.old }
     ensures flow { learning.new.flow ≡ learning.old.flow }
     ensures table { learning.new.table ≡ learning.old.table }
     ensures store { learning.new.store ≡ learning.old.store }
     ensures added { learning.new.added ≡ learning.old.added }
-    ensures ready { OnOk result
-        (IsReady (record { plan = plan.now; vetoes = vetoes.now }) learning.new) }
+    ensures ready { IsReady (record { plan = plan.now; vetoes = vetoes.now }) learning.new }
 {
     // By their types the plan and the vetoes are sound, and the counts within them.
     let _ = (plan.choices(), vetoes.count(), learning.flow.settles());
     let _added = learning.added;
     learning.stands = Prefix::empty();
-    list_places(&learning.table, &mut learning.places)
 }
 
 /// The answer where there is a best, at whose branch the flow is left.
@@ -86,6 +87,7 @@ fn found(
     ensures asked { LearnsOrStops plan.now.choices learning.old learning.new }
     ensures entered { IfOk result (LeavesEntered learning.new.store) }
     ensures kept { IsLearningFor (record { plan = plan.now; vetoes = vetoes.now }) learning.new }
+    ensures listed { AreListed learning.new.places learning.new.table }
 {
     learning.last = copy_of(plan, &best.branch);
     let potentials = solve(learning, alloc, plan, vetoes, &best)?;

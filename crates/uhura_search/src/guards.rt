@@ -1,40 +1,45 @@
-//! The guards by slot, and the edges of slots whose guard is another.
-ghost use Rattle.std.specs.Prelude.{◌≡◌, ◌<◌, None, length};
-ghost use Rattle.std.specs.Bool.{Decides};
-ghost use Rattle.uhura_plan.specs.declared.key.Item.TheVariants as item;
+//! The guards by slot, and which slots get another.
+ghost use Rattle.std.specs.Prelude.{◌≡◌, ◌≢◌, ◌<◌, IsFalse, false, length, replicate, slice_set};
+ghost use Rattle.std.specs.Bool.{Decides, MatchBool};
 ghost use Rattle.uhura_plan.specs.declared.limits.TheConstants.{REQUIREMENTS};
-ghost use Rattle.uhura_net.specs.Place.{HasPlace};
-ghost use Rattle.uhura_worst.specs.Filled.{Puts, PutsItem};
-ghost use Rattle.uhura_search.specs.Guards.{HaveGuardsOf, IsWithoutReguarded, WritesGuard};
+ghost use Rattle.uhura_search.specs.Guards.{HaveGuardsOf, guard_at};
+ghost use Rattle.uhura_search.specs.Refilled.{AreReguarded, IsNoneMarked};
 
-use uhura_net::{EdgeTable, place_of};
-use uhura_plan::{EdgeKey, Guard, Item, Plan, Requirement, Side, SideKey};
+use uhura_plan::{Guard, Plan, Requirement};
 
-/// Writes the guards of the plan's requirements at their slots, and takes the edges of each slot that had another out
-/// of the table.
-pub(crate) fn reguard(guards: &mut [Guard], table: &mut EdgeTable, plan: &Plan)
-    requires { length guards.old ≡ REQUIREMENTS }
+/// Writes the guards of the plan's requirements at their slots, marks each slot that had another, and tells whether
+/// there is one.
+pub(crate) fn reguard(guards: &mut [Guard], marks: &mut [bool], plan: &Plan) -> bool
+    requires slots { length guards.old ≡ REQUIREMENTS }
+    requires none { marks.old ≡ replicate REQUIREMENTS false }
     ensures guards { HaveGuardsOf guards.new plan.now.requirements }
-    ensures table { IsWithoutReguarded guards.old guards.new table.old table.new }
+    ensures marks { AreReguarded guards.old guards.new marks.new }
+    ensures none { IsFalse result → IsNoneMarked marks.new }
 {
+    let mut any = false;
     for position in 0..plan.requirements() {
-        write_guard(guards, table, plan.requirement(position).unwrap());
+        let differs = write_guard(guards, marks, plan.requirement(position).unwrap());
+        any = any || differs;
     }
+    any
 }
 
-/// Writes the guard of a requirement at its slot.
-fn write_guard(guards: &mut [Guard], table: &mut EdgeTable, requirement: &Requirement)
+/// Writes the guard of a requirement at its slot, marks the slot where it had another, and tells whether it had.
+fn write_guard(guards: &mut [Guard], marks: &mut [bool], requirement: &Requirement) -> bool
     requires slots { length guards.old ≡ REQUIREMENTS }
+    requires marks { length marks.old ≡ REQUIREMENTS }
     requires slot { requirement.now.slot < REQUIREMENTS }
-    ensures { WritesGuard guards.old guards.new table.old table.new requirement.now.slot
-        requirement.now.guard }
+    ensures guards { guards.new ≡ slice_set guards.old requirement.now.slot requirement.now.guard }
+    ensures marks { marks.new ≡ slice_set marks.old requirement.now.slot result }
+    ensures differs { MatchBool result
+        (guard_at guards.old requirement.now.slot ≢ requirement.now.guard)
+        (guard_at guards.old requirement.now.slot ≡ requirement.now.guard) }
 {
     let slot = requirement.slot as usize;
-    if is_same(&guards[slot], &requirement.guard) {
-        return;
-    }
+    let differs = !is_same(&guards[slot], &requirement.guard);
+    marks[slot] = differs;
     guards[slot] = requirement.guard;
-    empty_slot(table, requirement.slot);
+    differs
 }
 
 /// Whether the guards have the same literals in the same order.
@@ -42,34 +47,4 @@ fn is_same(one: &Guard, other: &Guard) -> bool
     ensures { Decides result (one.now ≡ other.now) }
 {
     one.literals() == other.literals()
-}
-
-/// Takes the edges of the requirement in a slot out of the table.
-fn empty_slot(table: &mut EdgeTable, slot: u32)
-    requires { slot < REQUIREMENTS }
-    ensures { PutsItem (item.Requirement slot) (λ key. None) table.old table.new }
-{
-    let item = Item::Requirement(slot);
-    let lower = SideKey {
-        item,
-        side: Side::Lower,
-    };
-    let upper = SideKey {
-        item,
-        side: Side::Upper,
-    };
-    empty_at(table, EdgeKey::Loose(lower));
-    empty_at(table, EdgeKey::Firm(lower));
-    empty_at(table, EdgeKey::Steep(lower));
-    empty_at(table, EdgeKey::Loose(upper));
-    empty_at(table, EdgeKey::Firm(upper));
-    empty_at(table, EdgeKey::Steep(upper));
-}
-
-/// Takes the edge of a key out of the table.
-fn empty_at(table: &mut EdgeTable, key: EdgeKey)
-    requires { HasPlace key }
-    ensures { Puts key None table.old table.new }
-{
-    table.put(place_of(key), None);
 }

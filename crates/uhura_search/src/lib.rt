@@ -3,7 +3,9 @@
 //! is moved from branch to branch (`specs/Moving.antt`), and what it shows is learned where it shuts a branch
 //! (`specs/Learning.antt`), at as few of its picks as may be (`specs/Fronts.antt`). Then leaves cover all branches
 //! (`specs/Appended.antt`). What is learned is kept from question to question (`specs/Searcher.antt`), and revised
-//! when the plan or the vetoes change (`specs/Revised.antt`); what it bounds is stated too (`specs/Bounds.antt`).
+//! when the plan or the vetoes change (`specs/Revised.antt`): the table is filled anew where it differs
+//! (`specs/Refilled.antt`), and all is taken over to it (`specs/Taken.antt`). What is kept bounds all that is allowed
+//! (`specs/Bounds.antt`).
 #![tactic(auto)]
 
 mod adding;
@@ -11,6 +13,7 @@ mod ask;
 mod closing;
 mod cover;
 mod fronts;
+mod going;
 mod guards;
 mod incumbent;
 mod keeping;
@@ -19,6 +22,8 @@ mod leaf;
 mod learning;
 pub mod moving;
 mod outcome;
+mod places;
+mod refilling;
 mod searcher;
 mod shut;
 mod solving;

@@ -1,5 +1,5 @@
 //! From branch to branch: a flow gets the edges that are active after some first picks.
-ghost use Rattle.std.specs.Prelude.{◌≡◌, ◌<◌, false, IfSome, OnOk, List, Option, length, replicate};
+ghost use Rattle.std.specs.Prelude.{◌≡◌, ◌<◌, true, false, IfSome, IsTrue, List, Option, length, replicate};
 ghost use Rattle.uhura_plan.specs.declared.limits.TheConstants.{REQUIREMENTS};
 ghost use Rattle.uhura_flow.specs.Flow.{flow_edges, IsFlow, IsFlowEdge};
 ghost use Rattle.uhura_choice.specs.declared.prefix.Pick.{Pick};
@@ -18,7 +18,6 @@ ghost use Rattle.uhura_net.specs.Circulation.{edges_of};
 ghost use Rattle.uhura_worst.specs.Edges.{item_of};
 ghost use Rattle.uhura_dual.specs.Settled.{key_at};
 
-use std::alloc::AllocError;
 use uhura_choice::{Prefix, holds};
 use uhura_flow::{Flow, Settled};
 use uhura_net::{Edge, EdgeTable, PLACES, Place, key_of};
@@ -32,22 +31,9 @@ pub enum Moved {
     Stuck,
 }
 
-/// Lists the places that have an edge in the table, in room that is kept.
-pub(crate) fn list_places(table: &EdgeTable, places: &mut Vec<u32>) -> Result<(), AllocError>
-    ensures { OnOk result (AreListed places.new.items table.now) }
-{
-    places.clear();
-    for number in 0..PLACES as u32 {
-        if table.get(Place(number)).is_some() {
-            places.push(number)?;
-        }
-    }
-    Ok(())
-}
-
 /// Brings a flow to exactly the edges of the table that are active after the picks: first those go that are to go,
-/// then the loose ones come, and then the others. It stops at the first edge that the flow is stuck at. The places
-/// are those that have an edge, and no others are looked at.
+/// then, where any are missing, the loose ones come, and then the others. It stops at the first edge that the flow is
+/// stuck at. The places are those that have an edge, and no others are looked at.
 pub(crate) fn move_to(
     flow: &mut Flow,
     table: &EdgeTable,
@@ -62,7 +48,9 @@ pub(crate) fn move_to(
 {
     let mut active = [false; REQUIREMENTS as usize];
     mark_active(&mut active, plan, prefix);
-    take_out(flow, table, places, &active);
+    if take_out(flow, table, places, &active) {
+        return Moved::Holds;
+    }
     match put_in(flow, table, places, &active, true) {
         Moved::Stuck => Moved::Stuck,
         Moved::Holds => put_in(flow, table, places, &active, false),
@@ -122,7 +110,7 @@ fn wanted(table: &EdgeTable, active: &[bool], place: Place) -> Option<Edge>
 }
 
 /// The edge of a key in the table.
-fn table_edge(table: &EdgeTable, place: Place, key: EdgeKey) -> Option<Edge>
+pub(crate) fn table_edge(table: &EdgeTable, place: Place, key: EdgeKey) -> Option<Edge>
     requires key { HasPlace key }
     requires stands { place_number key ≡ place.0 }
     requires bounds { HasFlowBounds table.now }
@@ -135,19 +123,24 @@ fn table_edge(table: &EdgeTable, place: Place, key: EdgeKey) -> Option<Edge>
     table.get(place)
 }
 
-/// Takes out each edge that isn't the one that the flow is to have there.
-fn take_out(flow: &mut Flow, table: &EdgeTable, places: &[u32], active: &[bool])
+/// Takes out each edge that isn't the one that the flow is to have there, and tells whether none is missing then.
+fn take_out(flow: &mut Flow, table: &EdgeTable, places: &[u32], active: &[bool]) -> bool
     requires slots { length active.now ≡ REQUIREMENTS }
     requires bounds { HasFlowBounds table.now }
     requires listed { AreListed places.now table.now }
     requires present { AreAmong (flow_edges flow.old) (edges_of table.now) }
-    ensures { IsTakenOut flow.old flow.new (marked_edges table.now active.now) }
+    ensures taken { IsTakenOut flow.old flow.new (marked_edges table.now active.now) }
+    ensures whole { IsTrue result →
+        AreAmong (marked_edges table.now active.now) (flow_edges flow.new) }
 {
+    let mut whole = true;
     for number in places {
         let place = Place(*number);
         let edge = wanted(table, active, place);
         take_at(flow, place, edge);
+        whole = whole && has_at(flow, place, edge);
     }
+    whole
 }
 
 /// Takes the edge out of a place, unless it is the given one.
@@ -159,6 +152,14 @@ pub(crate) fn take_at(flow: &mut Flow, place: Place, edge: Option<Edge>)
     if held.is_some() && held != edge {
         flow.remove(place);
     }
+}
+
+/// Whether the flow has the edge at a place.
+fn has_at(flow: &Flow, place: Place, edge: Option<Edge>) -> bool
+    requires { place.0 < PLACES }
+    ensures { result ≡ true → flow_edges flow.now place.0 ≡ edge }
+{
+    flow.edge(place) == edge
 }
 
 /// Puts in the loose edges that the flow is to have and hasn't, or those that aren't loose.
@@ -184,7 +185,7 @@ fn put_in(flow: &mut Flow, table: &EdgeTable, places: &[u32], active: &[bool], l
 }
 
 /// Puts in an edge where the flow has none.
-fn put_at(flow: &mut Flow, place: Place, edge: Option<Edge>) -> Moved
+pub(crate) fn put_at(flow: &mut Flow, place: Place, edge: Option<Edge>) -> Moved
     requires place { place.0 < PLACES }
     requires edge { IfSome edge (IsFlowEdge place.0) }
     ensures { IsPutAt flow.old flow.new place.0 edge result }

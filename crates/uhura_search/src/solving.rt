@@ -4,6 +4,7 @@ ghost use Rattle.uhura_flow.specs.Flow.{IsFlow};
 ghost use Rattle.uhura_dual.specs.ReadOff.{ArePotentials};
 ghost use Rattle.uhura_search.specs.Asked.{HasLearned};
 ghost use Rattle.uhura_search.specs.Learning.{IsLearningFor, IsReady, StandsAt, IsReachedAt};
+ghost use Rattle.uhura_search.specs.Moving.{AreListed};
 
 use crate::incumbent::Incumbent;
 use crate::learning::Learning;
@@ -30,6 +31,7 @@ pub(crate) fn solve(
     ensures store { learning.new.store ≡ learning.old.store }
     ensures read { HasLearned plan.now.choices learning.old learning.new [] 1 }
     ensures kept { IsLearningFor (record { plan = plan.now; vetoes = vetoes.now }) learning.new }
+    ensures listed { AreListed learning.new.places learning.new.table }
 {
     let places = learning.places.as_slice();
     match move_to(

@@ -7,7 +7,6 @@ ghost use Rattle.uhura_search.specs.Asked.{LearnsSome, LearnsOrStops};
 ghost use Rattle.uhura_search.specs.Learning.{IsReady, IsReachedAt, Tries};
 
 use crate::adding::add_stuck;
-use crate::fronts::shut_front;
 use crate::incumbent::Incumbent;
 use crate::learning::Learning;
 use crate::moving::{Moved, move_to};
@@ -113,13 +112,21 @@ fn change_at(
     let front = front_of(plan, branch, place);
     for index in 0..children(plan, &front) {
         let changed = child(plan, &front, index);
+        if has_same_pick(&changed, branch, place) {
+            continue;
+        }
         let changed = follow(plan, vetoes, &learning.store, changed, branch);
         consider(learning, best, alloc, plan, vetoes, &changed)?;
     }
     Ok(())
 }
 
-/// Tries a branch, unless a prefix of it is shut. It becomes the best so far where its value isn't enough.
+/// Whether both have the same pick at a place.
+fn has_same_pick(one: &Prefix, other: &Prefix, place: usize) -> bool {
+    one.entries().get(place) == other.entries().get(place)
+}
+
+/// Tries a branch, unless it is shut. It becomes the best so far where its value isn't enough.
 fn consider(
     learning: &mut Learning,
     best: &mut Option<Incumbent>,
@@ -137,7 +144,7 @@ fn consider(
     ensures stops { LearnsOrStops plan.now.choices learning.old learning.new }
     ensures ready { IsReady (record { plan = plan.now; vetoes = vetoes.now }) learning.new }
 {
-    if let Some(_front) = shut_front(plan, vetoes, &learning.store, best, branch) {
+    if is_shut(plan, vetoes, &learning.store, best, branch) {
         return Ok(());
     }
     let places = learning.places.as_slice();
@@ -150,9 +157,41 @@ fn consider(
     }
 }
 
-/// A branch with this prefix that has the picks of another where it can, and else the cheapest. What is shut is
-/// avoided where another pick isn't.
-fn follow(plan: &Plan, vetoes: &Vetoes, store: &Store, mut prefix: Prefix, other: &Prefix) -> Branch
+/// A branch with this prefix that has the picks of another where it can, and else the cheapest. Where it is shut, what
+/// is shut is avoided from pick to pick, where another isn't.
+fn follow(plan: &Plan, vetoes: &Vetoes, store: &Store, prefix: Prefix, other: &Prefix) -> Branch
+    requires { IsPrefix plan.now.choices prefix }
+    ensures { IsBranch plan.now.choices result }
+{
+    let start = front_of(plan, &prefix, prefix.entries().len());
+    let wished = follow_wishes(plan, start, other);
+    if !is_shut(plan, vetoes, store, &None, &wished) {
+        return wished;
+    }
+    follow_open(plan, vetoes, store, prefix, other)
+}
+
+/// The branch with this prefix that has the picks of another where it can, and else the cheapest.
+fn follow_wishes(plan: &Plan, mut prefix: Prefix, other: &Prefix) -> Branch
+    requires { IsPrefix plan.now.choices prefix }
+    ensures { IsBranch plan.now.choices result }
+{
+    for place in prefix.entries().len() as u32..plan.choices() {
+        let count = children(plan, &prefix);
+        let wish = wish_at(plan, other, place, count);
+        prefix = child(plan, &prefix, wish);
+    }
+    prefix
+}
+
+/// A branch with this prefix that has the wished picks but those that are shut, where another isn't.
+fn follow_open(
+    plan: &Plan,
+    vetoes: &Vetoes,
+    store: &Store,
+    mut prefix: Prefix,
+    other: &Prefix,
+) -> Branch
     requires { IsPrefix plan.now.choices prefix }
     ensures { IsBranch plan.now.choices result }
 {

@@ -13,7 +13,6 @@ ghost use Rattle.uhura_search.specs.Learning.{IsReady, StandsAt, IsReachedAt, Is
 use crate::adding::{add_stuck, note_flow};
 use crate::incumbent::Incumbent;
 use crate::learning::Learning;
-use crate::moving::{Moved, move_to};
 use crate::shut::is_dear;
 use crate::stepping::{Stop, step};
 use std::alloc::{AllocError, Global};
@@ -119,33 +118,6 @@ fn learn_dear(
     note_flow(learning, alloc, plan, branch, value)
 }
 
-/// Learns of a branch with all its edges: that the flow is stuck on the way to it, or what the flow is worth there.
-fn learn_whole(
-    learning: &mut Learning,
-    best: &mut Option<Incumbent>,
-    alloc: Global,
-    plan: &Plan,
-    vetoes: &Vetoes,
-    branch: &Branch,
-) -> Result<(), AllocError>
-    requires is_branch { IsBranch plan.now.choices branch.now }
-    requires ready { IsReady (record { plan = plan.now; vetoes = vetoes.now }) learning.old }
-    requires reached { let state : State = record { plan = plan.now; vetoes = vetoes.now } in
-        IfSome best.old (IsReachedAt state) }
-    requires open { let state : State = record { plan = plan.now; vetoes = vetoes.now } in
-        NoneBegins (IsShut state learning.old.store best.old) branch.now }
-    ensures closes { let state : State = record { plan = plan.now; vetoes = vetoes.now } in
-        OnOk result (Closes state learning.old learning.new best.old best.new branch.now) }
-    ensures stops { LearnsOrStops plan.now.choices learning.old learning.new }
-    ensures ready { IsReady (record { plan = plan.now; vetoes = vetoes.now }) learning.new }
-{
-    let places = learning.places.as_slice();
-    match move_to(&mut learning.flow, &learning.table, places, plan, branch) {
-        Moved::Stuck => add_stuck(learning, alloc, plan, branch),
-        Moved::Holds => look(learning, best, alloc, plan, vetoes, branch),
-    }
-}
-
 /// Learns of a branch of which no prefix is shut, so that it is: that the flow is stuck on the way to it, or is worth
 /// enough there for the best so far, at its first picks if it may be. Where it isn't worth enough, the branch is the
 /// best from then on.
@@ -181,6 +153,6 @@ pub(crate) fn learn(
     ) {
         Stop::Stuck => add_stuck(learning, alloc, plan, branch),
         Stop::Dear => learn_dear(learning, best, alloc, plan, vetoes, branch),
-        Stop::Open => learn_whole(learning, best, alloc, plan, vetoes, branch),
+        Stop::Open => look(learning, best, alloc, plan, vetoes, branch),
     }
 }

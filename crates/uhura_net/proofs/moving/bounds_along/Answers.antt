@@ -13,7 +13,7 @@ loop-step-preserved c =
     let sum = to_z w128 c.loop-step.sum-bits in
     let more = c.walked_bound.result in
     let next = AreBoundsSoFar-more (edges_of c.args.edges.now) c.args.places.now c.args.backward.now c.loop-step.step sum more c.loop-step-test.true c.requires.steps
-    c.walked_bound.ensures.bound c.walked_bound.ensures.least c.walked_bound.ensures.most c.loop-step.invariant in
+    (rw c.get.ensures at c.walked_bound.ensures.bound) c.walked_bound.ensures.least c.walked_bound.ensures.most c.loop-step.invariant in
     let fits : to_z w128 (of_z w128 (sum +ℤ to_z w128 (of_z w128 c.from-sum.result))) ≡ sum +ℤ more =
     omega (arith, ints, next.least, next.most, c.walked_bound.ensures.least, c.walked_bound.ensures.most, c.from-sum.ensures) in
     rw fits next

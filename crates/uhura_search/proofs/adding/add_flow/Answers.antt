@@ -15,8 +15,8 @@ pub flow_among-requires : goal.flow_among-requires
 flow_among-requires c =
     let learning = c.args.learning.now in
     record {
-      among = rw c.as_slice.ensures.value (used-among learning.table c.args.plan.now c.args.branch.now c.choices.ensures.sound (flow_edges learning.flow) c.requires.among (flow_units learning.flow)
-          c.value.ensures.sound.sound.circulates learning.places.items c.requires.listed);
+      among = rw c.as_slice.ensures.listed (used-among learning.table c.args.plan.now c.args.branch.now c.choices.ensures.sound (flow_edges learning.flow) c.requires.among (flow_units learning.flow)
+          c.value.ensures.sound.sound.circulates learning.places c.requires.listed);
       together = used-together learning.table c.args.plan.now c.args.branch.now c.choices.ensures.sound (flow_edges learning.flow) c.requires.among (flow_units learning.flow) c.value.ensures.sound.sound.circulates c.requires.is_branch;
     }
 

@@ -1,5 +1,4 @@
 use Rattle.std.proofs.Common.{rules}
-use Rattle.std.proofs.lemmas.Result.{on_ok_weaker}
 use Rattle.uhura_veto.specs.State.{State}
 use Rattle.uhura_search.proofs.Bettering.{table-of}
 use Rattle.uhura_search.proofs.FlowBounds.{table-bounded}
@@ -9,12 +8,11 @@ pub returns-clause-ready : goal.returns-clause-ready
 returns-clause-ready c =
     let state : State = record { plan = c.args.plan.now; vetoes = c.args.vetoes.now } in
     let learning = c.args.learning.now in
-    on_ok_weaker c.list_places.result
-    (λ listed. record {
+    let known = c.requires.known in
+    record {
       sound = c.choices.ensures.sound;
-      kept = record { store = c.requires.store; table = c.requires.table; present = c.requires.present };
-      listed = listed;
-      bounds = table-bounded state learning.table c.choices.ensures.sound c.count.ensures.sound (table-of state learning c.requires);
+      kept = record { store = known.store; table = known.table; present = known.present };
+      listed = c.requires.listed;
+      bounds = table-bounded state learning.table c.choices.ensures.sound c.count.ensures.sound (table-of state learning known);
       counts = record { added = search rules; settles = search rules };
-    })
-    c.list_places.ensures
+    }

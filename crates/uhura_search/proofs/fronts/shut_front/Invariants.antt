@@ -1,7 +1,11 @@
+use Rattle.std.specs.Prelude.{◌-◌}
 use Rattle.uhura_search.specs.Shut.{IsShut}
-use Rattle.uhura_search.proofs.Shorter.{NoneBelow}
+use Rattle.uhura_search.proofs.Shorter.{IsWithin}
 use Rattle.uhura_search.proofs.fronts.shut_front.Given as goal
 
--- no shorter prefix is shut
-abbrev pub invariant-loop-len : goal.invariant-loop-len
-invariant-loop-len l = NoneBelow (IsShut (record { plan = l.plan; vetoes = l.vetoes }) l.store l.best) l.branch l.len
+-- the shortest prefix that is shut has a number of picks between the two
+abbrev pub invariant-narrow : goal.invariant-narrow
+invariant-narrow l = IsWithin (IsShut (record { plan = l.plan; vetoes = l.vetoes }) l.store l.best) l.branch l.least l.most
+
+abbrev pub decreases-narrow : goal.decreases-narrow
+decreases-narrow l = l.most - l.least

@@ -7,18 +7,21 @@ use Rattle.uhura_net.specs.Net.{net_value}
 use Rattle.uhura_veto.specs.State.{State}
 use Rattle.uhura_search.specs.declared.learning.Learning.{Learning}
 use Rattle.uhura_search.specs.Learning.{KeepsLearned, IsReady}
+use Rattle.uhura_search.specs.Shut.{IsShut}
 use Rattle.uhura_search.proofs.Active.{among-table}
 use Rattle.uhura_search.proofs.Bettering.{looked-reached}
-use Rattle.uhura_search.proofs.Learns.{learns-none}
-use Rattle.uhura_search.proofs.Ready.{either, ready-kept}
+use Rattle.uhura_search.proofs.Lasting.{shut-lasts}
+use Rattle.uhura_search.proofs.Learns.{learns-none, raised-small}
+use Rattle.uhura_search.proofs.Ready.{either, ready-kept, ready-added}
 use Rattle.uhura_search.proofs.Reasons.{stuck-shut}
 use Rattle.uhura_search.proofs.Resuming.{stuck-closes, stuck-stops}
+use Rattle.uhura_search.proofs.Shorter.{open-none}
 use Rattle.uhura_search.proofs.starting.consider.Goals as goal
 
 pub add_stuck-requires-clause-unknown : goal.add_stuck-requires-clause-unknown
 add_stuck-requires-clause-unknown c key is =
     let state : State = record { plan = c.args.plan.now; vetoes = c.args.vetoes.now } in
-    c.in_default.ensures c.args.branch.now ([], sym (append-nil c.args.branch.now)) (stuck-shut state c.args.learning.now.store c.args.best.now c.args.branch.now key is)
+    c.if-is_shut.ensures (stuck-shut state c.args.learning.now.store c.args.best.now c.args.branch.now key is)
 
 pub returns-in-Stuck-clause-tries : goal.returns-in-Stuck-clause-tries
 returns-in-Stuck-clause-tries c =
@@ -57,6 +60,18 @@ returns-in-Holds-clause-tries c =
     let worth : value ≡ net_value moved.flow.net = to_z-of_z w128 c.value_of.result fits ∙ c.value_of.ensures.value in
     record {
       learns = learns-none c.args.plan.now.choices old moved c.requires.ready.counts keeps unsettled.settles;
-      reached = looked-reached state moved moved branch value c.args.best.now c.better.new.best ready c.requires.is_branch c.in-Holds.ensures.edges c.value_of.ensures.sound worth c.requires.reached c.in_default.ensures
+      reached = looked-reached state moved moved branch value c.args.best.now c.better.new.best ready c.requires.is_branch c.in-Holds.ensures.edges c.value_of.ensures.sound worth c.requires.reached
+          (open-none (IsShut state old.store c.args.best.now) branch (shut-lasts state old.store c.args.best.now) c.if-is_shut.ensures)
           c.better.ensures.bettered c.better.ensures.small;
     }
+
+pub returns-in-Stuck-clause-ready : goal.returns-in-Stuck-clause-ready
+returns-in-Stuck-clause-ready c =
+    let state : State = record { plan = c.args.plan.now; vetoes = c.args.vetoes.now } in
+    let old = c.args.learning.now in
+    let branch = c.args.branch.now in
+    let stuck : Learning = record old { flow = c.move_to.new.flow } in
+    let keeps : KeepsLearned old stuck = record { store = refl; added = refl; table = refl; pushes = c.in-Stuck.ensures.pushes } in
+    let ready : IsReady state stuck = ready-kept state old stuck c.requires.ready keeps refl (λ place edge is. among-table old.table c.args.plan.now branch place edge (c.in-Stuck.ensures.among place edge is))
+    (subst (λ (n : ℕ). n < 2 ^ 64) (sym c.in-Stuck.ensures.settles) (raised-small 1 old.flow.settles)) in
+    either c.add_stuck.result c.add_stuck.ensures.ok c.add_stuck.ensures.err (λ has. ready-added state stuck c.add_stuck.new.learning branch has.0 ready has.2) (λ same. subst (IsReady state) (sym same) ready)

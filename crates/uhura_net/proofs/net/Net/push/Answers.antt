@@ -2,7 +2,7 @@ use Rattle.std.proofs.Common.{◌≡◌, ℕ, List, to_z, of_z, refl, sym, subst
 use Rattle.std.proofs.lemmas.Int.{ints}
 use mir.Syntax.{w128}
 use Rattle.std.proofs.lemmas.List.{with_items_is}
-use Rattle.uhura_net.specs.Net.{NetState, AreNetEdges}
+use Rattle.uhura_net.specs.Net.{NetState}
 use Rattle.uhura_net.specs.Circulation.{edges_of, units_of}
 use Rattle.uhura_net.specs.Residual.{IsResidualCycle, CanMove}
 use Rattle.uhura_net.proofs.Cycles.{cycle_can_move, IsNetPushed-written, value_pushed}
@@ -11,7 +11,7 @@ use Rattle.uhura_net.proofs.net.Net.push.Goals as goal
 
 pub bounds_along-bounds-requires-clause-edges : goal.bounds_along-bounds-requires-clause-edges
 bounds_along-bounds-requires-clause-edges c =
-    subst AreNetEdges (sym c.deref.ensures.value) (record { places = c.self.invariant.sound.places; each = c.self.invariant.sound.each })
+    record { places = c.self.invariant.sound.places; each = c.self.invariant.sound.each }
 
 pub push_value-self-inside-requires-clause-before : goal.push_value-self-inside-requires-clause-before
 push_value-self-inside-requires-clause-before c =
@@ -26,7 +26,7 @@ push_value-self-inside-requires-clause-after c =
     let pushed = IsNetPushed-written c.args.self.now _ c.args.places.now c.args.backward.now c.args.units _ _ _ c.self.inside.pushes c.self.view_is c.deref_mut.ensures.value
     refl c.self.invariant.sound c.requires c.move_units.ensures.pushed c.move_units.ensures.places in
     let after = value_pushed c.args.self.now _ _ _ c.args.places.now c.args.backward.now c.args.units c.self.inside.value c.bounds_along-bounds.result c.self.view_is
-    c.deref.ensures.value c.bounds_along-bounds.ensures c.self.invariant.worth pushed in
+    refl c.bounds_along-bounds.ensures c.self.invariant.worth pushed in
     let small = small_value _ pushed.sound in
     rw (value, bounds) (omega (arith, ints, after, small.0), omega (arith, ints, after, small.1))
 
@@ -46,7 +46,7 @@ invariant_of-self c =
     let pushed = IsNetPushed-written c.args.self.now _ c.args.places.now c.args.backward.now c.args.units _ _ _ c.saturating_add-self-inside.result c.self.view_is c.deref_mut.ensures.value
     written c.self.invariant.sound c.requires c.move_units.ensures.pushed c.move_units.ensures.places in
     let after = value_pushed c.args.self.now _ _ _ c.args.places.now c.args.backward.now c.args.units c.self.inside.value c.bounds_along-bounds.result c.self.view_is
-    c.deref.ensures.value c.bounds_along-bounds.ensures c.self.invariant.worth pushed in
+    refl c.bounds_along-bounds.ensures c.self.invariant.worth pushed in
     let small = small_value _ pushed.sound in
     record {
       sound = pushed.sound;

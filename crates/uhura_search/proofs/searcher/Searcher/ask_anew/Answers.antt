@@ -12,7 +12,7 @@ invariant_of-self c =
     let inside = c.self.inside in
     let filled : IsTrue inside.filled = ap (λ (s : Searched). s.filled) c.self.view_is ∙ c.requires.filled in
     let have : HaveGuardsOf inside.guards.items state.plan.requirements = subst (λ (s : Searched). HaveGuardsOf s.guards state.plan.requirements) (sym c.self.view_is) c.requires.known.guards in
-    filled-held state c.ask.new.learning inside.guards.items inside.answer inside.stands inside.filled filled c.self.invariant.sound.slots have c.ask.ensures.kept c.self.invariant.sound.kept
+    filled-held state c.ask.new.learning inside.guards.items inside.answer inside.stands inside.filled filled c.self.invariant.sound.slots have c.ask.ensures.kept c.ask.ensures.listed c.self.invariant.sound.kept
 
 pub invariant_of-self-in_err-share : goal.invariant_of-self-in_err-share
 invariant_of-self-in_err-share c =
@@ -20,7 +20,7 @@ invariant_of-self-in_err-share c =
     let inside = c.self.inside in
     let filled : IsTrue inside.filled = ap (λ (s : Searched). s.filled) c.self.view_is ∙ c.requires.filled in
     let have : HaveGuardsOf inside.guards.items state.plan.requirements = subst (λ (s : Searched). HaveGuardsOf s.guards state.plan.requirements) (sym c.self.view_is) c.requires.known.guards in
-    filled-held state c.ask.new.learning inside.guards.items inside.answer inside.stands inside.filled filled c.self.invariant.sound.slots have c.ask.ensures.kept c.self.invariant.sound.kept
+    filled-held state c.ask.new.learning inside.guards.items inside.answer inside.stands inside.filled filled c.self.invariant.sound.slots have c.ask.ensures.kept c.ask.ensures.listed c.self.invariant.sound.kept
 
 pub invariant_of-self-2 : goal.invariant_of-self-2
 invariant_of-self-2 c =
@@ -31,7 +31,7 @@ invariant_of-self-2 c =
     let filled : IsTrue inside.filled = ap (λ (s : Searched). s.filled) c.self.view_is ∙ c.requires.filled in
     let have : HaveGuardsOf inside.guards.items state.plan.requirements = subst (λ (s : Searched). HaveGuardsOf s.guards state.plan.requirements) (sym c.self.view_is) c.requires.known.guards in
     filled-held state (record learning { store = store }) inside.guards.items (Some c.in_ok-share.field-0) true inside.filled filled
-    c.self.invariant.sound.slots have (trimmed-learning state learning store 8388608 c.trim.ensures.trimmed.0 c.trim.ensures.trimmed.1 c.trim.ensures.sound c.ask.ensures.kept) (λ stands. refl)
+    c.self.invariant.sound.slots have (trimmed-learning state learning store 8388608 c.trim.ensures.trimmed.0 c.trim.ensures.trimmed.1 c.trim.ensures.sound c.ask.ensures.kept) c.ask.ensures.listed (λ stands. refl)
 
 pub returns-clause-stands_for : goal.returns-clause-stands_for
 returns-clause-stands_for c =

@@ -1,5 +1,5 @@
 use Rattle.uhura_search.proofs.Following.{IsPrefixTo}
-use Rattle.uhura_search.proofs.starting.follow.Given as goal
+use Rattle.uhura_search.proofs.starting.follow_open.Given as goal
 
 -- the choices before the place have their picks
 abbrev pub invariant-loop-place : goal.invariant-loop-place
