@@ -77,6 +77,10 @@ pub none-denied : (state : State) (prefix : List Pick) (found : Option (List ℕ
 none-denied state prefix None is none = sym is
 none-denied state prefix (Some name) is none = absurd (let never : ⊥ = cc in never)
 
+-- so does a firm cycle
+pub stuck-shut : (state : State) (store : Stored) (best : Option Incumbent) (prefix : List Pick) (key : ℕ) → IsBest store prefix (Stuck key) → IsShut state store best prefix
+stuck-shut state store best prefix key is = record { reason = LearnedOf is.conflict; is_reason = record { key = key; applies = is.there; enough = inl is.stuck } }
+
 -- a prefix that isn't denied is shut where it is hopeless
 pub hopeless-shut : (state : State) (store : Stored) (best : Option Incumbent) (prefix : List Pick) → IsHopeless state.plan store best prefix → IsShut state store best prefix
 hopeless-shut state store best prefix (inl dear) = record { reason = Empty; is_reason = dear }

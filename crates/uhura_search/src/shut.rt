@@ -1,5 +1,5 @@
 //! Whether a prefix is shut, and why.
-ghost use Rattle.std.specs.Prelude.{◌≡◌, ◌↔◌, ◌^◌, ◌≤ℤ◌, ℤ, pos, IfOk, IfSome, MatchBool, option_map, length, nat_eq, int_lt, int_le};
+ghost use Rattle.std.specs.Prelude.{◌≡◌, ◌↔◌, ◌^◌, ◌+ℤ◌, ◌≤ℤ◌, ℤ, pos, IfOk, IfSome, MatchBool, option_map, length, nat_eq, int_lt, int_le};
 ghost use Rattle.uhura_choice.specs.Branch.{IsBranch, IsPrefix};
 ghost use Rattle.uhura_veto.specs.State.{State};
 ghost use Rattle.uhura_conflict.specs.Store.{conflict_at, IsReachedBy};
@@ -132,7 +132,7 @@ fn least_beside(plan: &Plan, best: &Incumbent, prefix: &Prefix) -> Option<i128>
 {
     let left = left_of(plan, best, prefix);
     match compare(prefix, &best.branch) {
-        Ordering::Less => Some(left + 1),
+        Ordering::Less => Some(one_more(left)),
         Ordering::Equal => {
             if is_as_long(prefix, &best.branch) {
                 Some(left)
@@ -151,6 +151,14 @@ fn left_of(plan: &Plan, best: &Incumbent, prefix: &Prefix) -> i128
     ensures small { result ≤ℤ pos (2 ^ 100) }
 {
     best.cost as i128 - i128::from(picked_cost(plan, prefix))
+}
+
+/// One more than a value that leaves room for it.
+fn one_more(value: i128) -> i128
+    requires { value ≤ℤ pos (2 ^ 100) }
+    ensures { result ≡ value +ℤ pos 1 }
+{
+    value + 1
 }
 
 /// Whether both have as many picks.
