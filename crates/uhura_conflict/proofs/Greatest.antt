@@ -1,6 +1,6 @@
 -- The best of the conflicts under the first keys.
 use Rattle.std.proofs.Common.{◌≡◌, ◌⊎◌, ℕ, zero, suc, ◌+◌, ◌<◌, ◌≤◌, ℤ, pos, ◌≤ℤ◌, ◌<ℤ◌, Bool, true, false, ◌||◌, List, length, Option, Some, None, cond, inl, inr, ap, sym, subst, refl, ◌∙◌, arith}
-use Rattle.std.specs.Prelude.{IsTrue, IsFalse, IfSome, int_lt}
+use Rattle.std.specs.Prelude.{IsTrue, IsFalse, IfSome, int_lt, int_le}
 use Rattle.std.proofs.lemmas.Int.{ints, by_lt_z}
 use Rattle.std.proofs.lemmas.Bool.Decides.{nat_tests}
 use Rattle.std.proofs.lemmas.Bool.{cases_eq, cases_lt}
@@ -79,6 +79,12 @@ lt_z a b more = by_lt_z {P = a <ℤ b} a b (λ less. less) (λ least. grind (ari
 
 pub le_z : (a b : ℤ) → int_lt a b ≡ false → b ≤ℤ a
 le_z a b less = by_lt_z {P = b ≤ℤ a} a b (λ more. grind (arith, ints, nat_tests)) (λ least. least)
+
+pub least_z : (a b : ℤ) → int_le a b ≡ true → a ≤ℤ b
+least_z a b least = by_lt_z {P = a ≤ℤ b} b a (λ less. grind (arith, ints, nat_tests)) (λ more. more)
+
+pub more_z : (a b : ℤ) → int_le a b ≡ false → b <ℤ a
+more_z a b more = by_lt_z {P = b <ℤ a} b a (λ less. less) (λ least. grind (arith, ints, nat_tests))
 
 pub true_false : {b : Bool} → b ≡ true → b ≡ false → ⊥
 true_false one other = absurd (cc)

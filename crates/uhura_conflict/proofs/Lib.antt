@@ -12,3 +12,4 @@ pub mod Serving
 pub mod Among
 pub mod Using
 pub mod Summing
+pub mod Reaching

@@ -1,6 +1,6 @@
 -- What summaries say of entries, as entries come, go and change.
-use Rattle.std.proofs.Common.{◌≡◌, ◌≢◌, ◌⊎◌, ℕ, ◌+◌, ◌*◌, ◌/◌, ◌<◌, ◌≤◌, ℤ, pos, ◌≤ℤ◌, Bool, true, false, ◌||◌, List, [], ◌∷◌, ◌++◌, length, get_or, Option, Some, None, inl, inr, ap, sym, subst, refl, ◌∙◌, arith}
-use Rattle.std.specs.Prelude.{IsTrue, IsFalse, IsSome, IfSome, is_some, int_lt, option_and_then}
+use Rattle.std.proofs.Common.{◌≡◌, ◌≢◌, ◌⊎◌, ℕ, ◌+◌, ◌*◌, ◌/◌, ◌<◌, ◌≤◌, ℤ, ◌≤ℤ◌, ◌<ℤ◌, Bool, true, false, ◌||◌, List, [], ◌∷◌, ◌++◌, length, get_or, Option, Some, None, inl, inr, ap, sym, subst, refl, ◌∙◌, arith}
+use Rattle.std.specs.Prelude.{IsTrue, IsFalse, IsSome, IfSome, is_some, int_lt, int_le, option_and_then}
 use Rattle.std.proofs.lemmas.Int.{ints}
 use Rattle.std.proofs.lemmas.Bool.{cases_Bool, cases_eq, cases_lt}
 use Rattle.std.proofs.lemmas.List.{get_or_past, get_or_push, get_or_append_left, length-append}
@@ -8,7 +8,8 @@ use Rattle.slab.specs.Slab.{Slab, get, Updates}
 use Rattle.uhura_choice.specs.declared.prefix.Pick.{Pick}
 use Rattle.uhura_net.specs.declared.edge.Edge.{Edge}
 use Rattle.uhura_conflict.specs.declared.bound.Bound.{Bound}
-use Rattle.uhura_conflict.specs.declared.bound.Bound.TheVariants.{Nothing, Flow, Stuck}
+use Rattle.uhura_conflict.specs.declared.sought.Sought.{Sought}
+use Rattle.uhura_conflict.specs.declared.sought.Sought.TheVariants.{NoEntry, Cycle, Above, AtLeast}
 use Rattle.uhura_conflict.specs.declared.entry.Entry.{Entry}
 use Rattle.uhura_conflict.specs.declared.summary.Summary.{Summary}
 use Rattle.uhura_conflict.specs.declared.summaries.Summaries.{Summaries}
@@ -16,9 +17,15 @@ use Rattle.uhura_conflict.specs.declared.summaries.TheConstants.{BLOCK, GROUP}
 use Rattle.uhura_conflict.specs.Learned.{Learned}
 use Rattle.uhura_conflict.specs.Literals.{AreAllPicked, Applies}
 use Rattle.uhura_conflict.specs.Store.{if_it_outlasts}
-use Rattle.uhura_conflict.specs.Entries.{conflict_of, exceeds_by, exceeds, RevisesAt, IsBestBelow}
+use Rattle.uhura_conflict.specs.Entries.{conflict_of, is_sought_by, is_sought, beyond, NoneBetween, RevisesAt, IsBestBelow}
 use Rattle.uhura_conflict.specs.Summaries.{Covers, IsCoveredBy, AreCovered, AreSummed, IsInRange, IsReached, CannotMatter}
-use Rattle.uhura_conflict.proofs.Greatest.{true_false, lt_z, le_z, best-passed_over}
+use Rattle.uhura_conflict.proofs.Greatest.{true_false, lt_z, le_z, least_z, more_z, best-passed_over}
+
+not_least : (a b : ℤ) → b <ℤ a → int_le a b ≡ false
+not_least a b less = elim (cases_Bool (int_le a b)) [
+  | inl least ↦ absurd (omega (arith, ints, less, least_z a b least))
+  | inr so ↦ so
+]
 
 not_less : (a b : ℤ) → b ≤ℤ a → int_lt a b ≡ false
 not_less a b least = elim (cases_Bool (int_lt a b)) [
@@ -26,35 +33,48 @@ not_less a b least = elim (cases_Bool (int_lt a b)) [
   | inr least_so ↦ least_so
 ]
 
--- what a wider value doesn't exceed, a narrower doesn't
-narrower : (most value greatest : ℤ) (stuck wide : Bool) → (IsTrue stuck → IsTrue wide) → value ≤ℤ greatest → (wide || int_lt most greatest) ≡ false → (stuck || int_lt most value) ≡ false
-narrower most value greatest stuck true to less none = absurd (cc)
-narrower most value greatest true false to less none = absurd (true_false (to refl) refl)
-narrower most value greatest false false to less none = not_less most value (omega (arith, ints, less, le_z most greatest none))
+-- where a wider value isn't looked for, a narrower isn't
+not-stuck : (stuck wide : Bool) → (IsTrue stuck → IsTrue wide) → wide ≡ false → stuck ≡ false
+not-stuck true wide to none = absurd (true_false (to refl) none)
+not-stuck false wide to none = refl
 
-exceeds-narrower : (best : Bound) (value greatest : ℤ) (stuck wide : Bool) → (IsTrue stuck → IsTrue wide) → value ≤ℤ greatest → exceeds_by best wide greatest ≡ false → exceeds_by best stuck value ≡ false
-exceeds-narrower Nothing value greatest stuck wide to less none = narrower (pos 0) value greatest stuck wide to less none
-exceeds-narrower (Flow most first) value greatest stuck wide to less none = narrower most value greatest stuck wide to less none
-exceeds-narrower (Stuck first) value greatest stuck wide to less none = refl
+narrower : (stuck wide less more : Bool) → (IsTrue stuck → IsTrue wide) → (more ≡ false → less ≡ false) → (wide || more) ≡ false → (stuck || less) ≡ false
+narrower stuck true less more to down none = absurd (cc)
+narrower true false less more to down none = absurd (true_false (to refl) refl)
+narrower false false less more to down none = down none
 
--- no entry of a block matters that exceeds nothing, or that doesn't apply
-pub cannot-exceed : (summary : Summary) (picks : List Pick) (best : Bound) → exceeds_by best summary.stuck summary.greatest ≡ false → CannotMatter (Some summary) picks best
-cannot-exceed summary picks best none = λ entry covers applies. exceeds-narrower best entry.value summary.greatest entry.conflict.stuck summary.stuck covers.stuck covers.greatest none
+sought-narrower : (sought : Sought) (value greatest : ℤ) (stuck wide : Bool) → (IsTrue stuck → IsTrue wide) → value ≤ℤ greatest → is_sought_by sought wide greatest ≡ false → is_sought_by sought stuck value ≡ false
+sought-narrower NoEntry value greatest stuck wide to less none = refl
+sought-narrower Cycle value greatest stuck wide to less none = not-stuck stuck wide to none
+sought-narrower (Above most) value greatest stuck wide to less none =
+    narrower stuck wide (int_lt most value) (int_lt most greatest) to (λ no. not_less most value (omega (arith, ints, less, le_z most greatest no))) none
+sought-narrower (AtLeast least) value greatest stuck wide to less none =
+    narrower stuck wide (int_le least value) (int_le least greatest) to (λ no. not_least least value (omega (arith, ints, less, more_z least greatest no))) none
 
-pub cannot-apply : (summary : Summary) (picks : List Pick) (best : Bound) → (AreAllPicked picks summary.literals → ⊥) → CannotMatter (Some summary) picks best
-cannot-apply summary picks best never = λ entry covers applies. absurd (never (λ literal asks. applies literal (covers.literals literal asks)))
+-- no entry of a block is found that isn't looked for, or that doesn't apply
+pub cannot-be_sought : (summary : Summary) (picks : List Pick) (sought : Sought) → is_sought_by sought summary.stuck summary.greatest ≡ false → CannotMatter (Some summary) picks sought
+cannot-be_sought summary picks sought none = λ entry covers applies. sought-narrower sought entry.value summary.greatest entry.conflict.stuck summary.stuck covers.stuck covers.greatest none
 
--- a block that cannot matter is passed over
-pub best-passed_block : (size : ℕ) (blocks : List (Option Summary)) (entries : Slab Entry) (picks : List Pick) (best : Bound) (block : ℕ) → AreCovered size blocks entries →
-    CannotMatter (get_or blocks block None) picks best → ((key : ℕ) → block * size ≤ key → key < block * size + size → key / size ≡ block) →
-    IsBestBelow (block * size) entries picks best → IsBestBelow (block * size + size) entries picks best
-best-passed_block size blocks entries picks best block covered cannot inside so_far =
-    best-passed_over entries picks best (block * size) size
-    (λ key least less. at (get entries key) (subst (λ b. IfSome (get entries key) (IsCoveredBy (get_or blocks b None))) (inside key least less) (covered key))) so_far
+pub cannot-apply : (summary : Summary) (picks : List Pick) (sought : Sought) → (AreAllPicked picks summary.literals → ⊥) → CannotMatter (Some summary) picks sought
+cannot-apply summary picks sought never = λ entry covers applies. absurd (never (λ literal asks. applies literal (covers.literals literal asks)))
+
+-- nothing is found in a block that cannot matter
+pub none-in_block : (size : ℕ) (blocks : List (Option Summary)) (entries : Slab Entry) (picks : List Pick) (sought : Sought) (block : ℕ) → AreCovered size blocks entries →
+    CannotMatter (get_or blocks block None) picks sought → ((key : ℕ) → block * size ≤ key → key < block * size + size → key / size ≡ block) →
+    NoneBetween entries picks sought (block * size) (block * size + size)
+none-in_block size blocks entries picks sought block covered cannot inside =
+    λ key least less. at (get entries key) (subst (λ b. IfSome (get entries key) (IsCoveredBy (get_or blocks b None))) (inside key least less) (covered key))
   where
-    at : (found : Option Entry) → IfSome found (IsCoveredBy (get_or blocks block None)) → IfSome found (λ entry. Applies picks entry.conflict → exceeds best entry ≡ false)
+    at : (found : Option Entry) → IfSome found (IsCoveredBy (get_or blocks block None)) → IfSome found (λ (entry : Entry). Applies picks entry.conflict → IsFalse (is_sought sought entry))
     at None covers = tt
     at (Some entry) covers = cannot entry covers
+
+-- such a block is passed over
+pub best-passed_block : (size : ℕ) (blocks : List (Option Summary)) (entries : Slab Entry) (picks : List Pick) (best : Bound) (block : ℕ) → AreCovered size blocks entries →
+    CannotMatter (get_or blocks block None) picks (beyond best) → ((key : ℕ) → block * size ≤ key → key < block * size + size → key / size ≡ block) →
+    IsBestBelow (block * size) entries picks best → IsBestBelow (block * size + size) entries picks best
+best-passed_block size blocks entries picks best block covered cannot inside so_far =
+    best-passed_over entries picks best (block * size) size (none-in_block size blocks entries picks (beyond best) block covered cannot inside) so_far
 
 -- what holds of an entry, if there is one
 if_some : (P Q : Entry → Type 0) → ((entry : Entry) → P entry → Q entry) → (found : Option Entry) → IfSome found P → IfSome found Q

@@ -1,6 +1,6 @@
 -- What the tables of a store show.
 use Rattle.std.specs.Option.{option_map_or}
-use Rattle.std.specs.Prelude.{◌≡◌, ℕ, ◌<◌, ℤ, pos, int_lt, IsFalse, IfSome, All, List, map, sum, length, Option, option_map, option_and_then, Bool, false, ◌||◌, is_some, if◌then◌else◌}
+use Rattle.std.specs.Prelude.{◌≡◌, ℕ, ◌<◌, ◌≤◌, ℤ, pos, int_lt, int_le, IsTrue, IsFalse, IfSome, All, List, map, sum, length, Option, Some, None, option_map, option_and_then, Bool, false, ◌||◌, is_some, if◌then◌else◌}
 use Rattle.slab.specs.Slab.{Slab, get}
 use Rattle.uhura_choice.specs.declared.prefix.Pick.{Pick}
 use Rattle.uhura_net.specs.declared.edge.Edge.{Edge}
@@ -8,6 +8,9 @@ use Rattle.uhura_net.specs.Circulation.{edges_of}
 use Rattle.uhura_conflict.specs.declared.bound.Bound.{Bound}
 use Rattle.uhura_conflict.specs.declared.bound.Bound.TheVariants.{Nothing, Flow, Stuck}
 use Rattle.uhura_conflict.specs.declared.entry.Entry.{Entry}
+use Rattle.uhura_conflict.specs.declared.sought.Sought.{Sought}
+use Rattle.uhura_conflict.specs.declared.sought.Sought.TheVariants.{NoEntry, Cycle, Above, AtLeast}
+use Rattle.uhura_conflict.specs.Literals.{Applies}
 use Rattle.uhura_conflict.specs.Learned.{Learned, IsLearned, IsValid, flow_value}
 use Rattle.uhura_conflict.specs.Marked.{IsUnmarked}
 use Rattle.uhura_conflict.specs.Store.{Stored, IsStore, Applying, AppliesAt, value_at, IsBestAmong, if_it_outlasts}
@@ -40,15 +43,45 @@ pub record IsHeldStore (entries : Slab Entry) (order : List ℕ) (table : List (
   pub sound : IsStore (shown_as entries order table)
   pub worth : AreWorth entries table
 
--- a firm cycle, or else a flow of this value, would change what is known, if it applies
-abbrev pub exceeds_by : Bound → Bool → ℤ → Bool
-exceeds_by (Stuck first) stuck value = false
-exceeds_by (Flow most first) stuck value = stuck || int_lt most value
-exceeds_by Nothing stuck value = stuck || int_lt (pos 0) value
+-- a firm cycle, or else a flow of this value, is looked for
+abbrev pub is_sought_by : Sought → Bool → ℤ → Bool
+is_sought_by NoEntry stuck value = false
+is_sought_by Cycle stuck value = stuck
+is_sought_by (Above most) stuck value = stuck || int_lt most value
+is_sought_by (AtLeast least) stuck value = stuck || int_le least value
 
--- and so would an entry
+-- and so is an entry
+abbrev pub is_sought : Sought → Entry → Bool
+is_sought sought entry = is_sought_by sought entry.conflict.stuck entry.value
+
+-- what would change what is known
+abbrev pub beyond : Bound → Sought
+beyond (Stuck first) = NoEntry
+beyond (Flow most first) = Above most
+beyond Nothing = Above (pos 0)
+
+-- an entry would, if it applies
 abbrev pub exceeds : Bound → Entry → Bool
-exceeds best entry = exceeds_by best entry.conflict.stuck entry.value
+exceeds best entry = is_sought (beyond best) entry
+
+-- firm cycles, and where a value is given, also flows that are worth at least so much
+abbrev pub reaching : Option ℤ → Sought
+reaching None = Cycle
+reaching (Some least) = AtLeast least
+
+-- an entry that is looked for applies to the picks
+pub record IsFound (entries : Slab Entry) (picks : List Pick) (sought : Sought) : Type 0 where
+  pub key : ℕ
+  pub entry : Entry
+  pub there : get entries key ≡ Some entry
+  pub applies : Applies picks entry.conflict
+  pub is_sought : IsTrue (is_sought sought entry)
+
+-- under no key from one to another is there such an entry
+abbrev pub NoneBetween : Slab Entry → List Pick → Sought → ℕ → ℕ → Type 0
+NoneBetween entries picks sought from to = (key : ℕ) → from ≤ key → key < to →
+    IfSome (get entries key) (λ (entry : Entry).
+    Applies picks entry.conflict → IsFalse (is_sought sought entry))
 
 -- what an entry tells
 abbrev pub bound_of : Entry → ℕ → Bound

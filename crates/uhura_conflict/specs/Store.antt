@@ -99,6 +99,19 @@ pub record ExceedsBest (store : Stored) (picks : List Pick) (conflict : Learned)
   pub best : IsBest store picks bound
   pub exceeds : Exceeds store conflict bound
 
+-- a value is no less than another, which is given
+abbrev pub IsReachedBy : Option ℤ → ℤ → Type 0
+IsReachedBy None value = ⊥
+IsReachedBy (Some least) value = least ≤ℤ value
+
+-- a conflict that applies to the picks is a firm cycle, or a flow whose value is no less than the one given
+pub record Reaches (store : Stored) (picks : List Pick) (least : Option ℤ) : Type 0 where
+  pub key : ℕ
+  pub conflict : Learned
+  pub there : AppliesAt store picks key conflict
+  pub enough : IsTrue conflict.stuck
+      ⊎ (IsFalse conflict.stuck × IsReachedBy least (value_at store conflict))
+
 -- the conflict comes under a key that had none, last in the order; all others stay, and so does the table
 pub record Adds (old new : Stored) (key : ℕ) (conflict : Learned) : Type 0 where
   pub free : conflict_at old key ≡ None

@@ -3,13 +3,13 @@ use Rattle.std.specs.Prelude.{ℕ, ◌/◌, ◌<◌, ◌≤ℤ◌, IsTrue, IsFal
 use Rattle.slab.specs.Slab.{Slab, get, Updates}
 use Rattle.uhura_plan.specs.declared.guard.Literal.{Literal}
 use Rattle.uhura_choice.specs.declared.prefix.Pick.{Pick}
-use Rattle.uhura_conflict.specs.declared.bound.Bound.{Bound}
 use Rattle.uhura_conflict.specs.declared.entry.Entry.{Entry}
 use Rattle.uhura_conflict.specs.declared.summary.Summary.{Summary}
 use Rattle.uhura_conflict.specs.declared.summaries.Summaries.{Summaries}
 use Rattle.uhura_conflict.specs.declared.summaries.TheConstants.{BLOCK, GROUP}
+use Rattle.uhura_conflict.specs.declared.sought.Sought.{Sought}
 use Rattle.uhura_conflict.specs.Literals.{Asks, Applies}
-use Rattle.uhura_conflict.specs.Entries.{exceeds}
+use Rattle.uhura_conflict.specs.Entries.{is_sought}
 
 -- an entry is one of those that a summary tells of: it has all its literals, is a firm cycle only where one may be, and
 -- is worth no more than the greatest
@@ -52,7 +52,7 @@ pub record IsReached (summaries : Summaries) (key : ℕ) : Type 0 where
   pub group : IsInRange GROUP summaries.groups.items key
   pub block : IsInRange BLOCK summaries.blocks.items key
 
--- no entry that such a summary covers would change what is known of the branches with these picks
-abbrev pub CannotMatter : Option Summary → List Pick → Bound → Type 0
-CannotMatter summary picks best = (entry : Entry) → IsCoveredBy summary entry →
-    Applies picks entry.conflict → IsFalse (exceeds best entry)
+-- no entry that such a summary covers, and that applies to these picks, is looked for
+abbrev pub CannotMatter : Option Summary → List Pick → Sought → Type 0
+CannotMatter summary picks sought = (entry : Entry) → IsCoveredBy summary entry →
+    Applies picks entry.conflict → IsFalse (is_sought sought entry)

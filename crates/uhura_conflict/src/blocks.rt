@@ -4,8 +4,8 @@ ghost use Rattle.slab.specs.Slab.{get};
 ghost use Rattle.uhura_conflict.specs.declared.entry.Entry.{Entry};
 ghost use Rattle.uhura_conflict.specs.Summaries.{IsCoveredBy, AreCovered, IsInRange, CannotMatter};
 
-use crate::Bound;
 use crate::entry::Entry;
+use crate::sought::Sought;
 use crate::summary::{Summary, may_matter, widened};
 use slab::Slab;
 use std::alloc::AllocError;
@@ -50,14 +50,14 @@ pub(crate) fn renew(blocks: &mut Vec<Option<Summary>>, size: usize, entries: &Sl
     }
 }
 
-/// Whether an entry of this block may change what is known of the branches with these picks.
+/// Whether an entry of this block may be looked for and apply to these picks.
 pub(crate) fn may_matter_in(
     blocks: &[Option<Summary>],
     block: usize,
-    best: Bound,
+    sought: Sought,
     picks: &[Pick],
 ) -> bool
-    ensures { IsFalse result → CannotMatter (slice_index_or blocks.now block None) picks.now best }
+    ensures { IsFalse result → CannotMatter (slice_index_or blocks.now block None) picks.now sought }
 {
-    block < blocks.len() && may_matter(&blocks[block], best, picks)
+    block < blocks.len() && may_matter(&blocks[block], sought, picks)
 }

@@ -1,8 +1,9 @@
 //! A conflict with its value.
 ghost use Rattle.std.specs.Prelude.{◌≡◌};
-ghost use Rattle.uhura_conflict.specs.Entries.{exceeds, exceeds_by};
+ghost use Rattle.uhura_conflict.specs.Entries.{is_sought};
 
-use crate::{Bound, Conflict};
+use crate::Conflict;
+use crate::sought::{Sought, is_sought};
 
 /// A conflict, and, of a flow, what it is worth at the store's table.
 #[derive(Drop)]
@@ -12,21 +13,10 @@ pub(crate) struct Entry {
 }
 
 impl Entry {
-    /// Whether it would change what is known, if it applies: it is quicker to tell than whether it does.
-    pub(crate) fn exceeds(&self, best: Bound) -> bool
-        ensures { result ≡ exceeds best self.now }
+    /// Whether it is looked for, if it applies: it is quicker to tell than whether it does.
+    pub(crate) fn is_sought(&self, sought: Sought) -> bool
+        ensures { result ≡ is_sought sought self.now }
     {
-        exceeds(best, self.conflict.is_stuck(), self.value)
-    }
-}
-
-/// Whether a firm cycle, or else a flow of this value, would change what is known, if it applies.
-pub(crate) fn exceeds(best: Bound, stuck: bool, value: i128) -> bool
-    ensures { result ≡ exceeds_by best stuck value }
-{
-    match best {
-        Bound::Stuck { .. } => false,
-        Bound::Flow { value: most, .. } => stuck || most < value,
-        Bound::Nothing => stuck || 0 < value,
+        is_sought(sought, self.conflict.is_stuck(), self.value)
     }
 }

@@ -8,6 +8,7 @@ ghost use Rattle.uhura_conflict.specs.Summaries.{AreCovered, AreSummed};
 use crate::Bound;
 use crate::blocks::may_matter_in;
 use crate::entry::Entry;
+use crate::sought::beyond;
 use crate::summaries::{BLOCK, BLOCKS, GROUP, Summaries};
 use crate::summary::Summary;
 use slab::Slab;
@@ -22,7 +23,7 @@ pub(crate) fn best_in(entries: &Slab<Entry>, summaries: &Summaries, picks: &[Pic
 {
     let mut best = Bound::Nothing;
     for group in 0..entries.capacity() / GROUP + 1 {
-        if may_matter_in(&summaries.groups, group, best, picks) {
+        if may_matter_in(&summaries.groups, group, beyond(best), picks) {
             best = best_in_group(entries, &summaries.blocks, group, best, picks);
         }
     }
@@ -45,7 +46,7 @@ fn best_in_group(
     let mut best = known;
     for place in 0..BLOCKS {
         let block = group * BLOCKS + place;
-        if may_matter_in(blocks, block, best, picks) {
+        if may_matter_in(blocks, block, beyond(best), picks) {
             best = best_in_block(entries, block, best, picks);
         }
     }
@@ -62,7 +63,7 @@ fn best_in_block(entries: &Slab<Entry>, block: usize, known: Bound, picks: &[Pic
     for place in 0..BLOCK {
         let key = block * BLOCK + place;
         if let Some(entry) = entries.get(key) {
-            if entry.exceeds(best) && entry.conflict.applies(picks) {
+            if entry.is_sought(beyond(best)) && entry.conflict.applies(picks) {
                 best = bound_of(entry, key);
             }
         }

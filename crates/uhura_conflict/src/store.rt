@@ -1,16 +1,18 @@
 //! What was learned and kept.
-ghost use Rattle.std.specs.Prelude.{◌≡◌, ℕ, ◌≤◌, ◌<◌, All, find, IfOk, IfErr, OnErr};
+ghost use Rattle.std.specs.Prelude.{◌≡◌, ℕ, ◌≤◌, ◌<◌, All, find, IfOk, IfErr, OnErr, MatchBool};
 ghost use Rattle.uhura_net.specs.declared.place.TheConstants.{PLACES};
 ghost use Rattle.uhura_net.specs.Circulation.{edges_of};
 ghost use Rattle.uhura_conflict.specs.Learned.{IsValid};
 ghost use Rattle.uhura_conflict.specs.Literals.{Applies};
 ghost use Rattle.uhura_conflict.specs.Marked.{DifferAmong};
-ghost use Rattle.uhura_conflict.specs.Store.{conflict_at, IsStore, empty_store, IsBest, ExceedsBest, Adds, Revises, Trims};
+ghost use Rattle.uhura_conflict.specs.Store.{conflict_at, IsStore, empty_store, IsBest, Reaches, ExceedsBest, Adds, Revises, Trims};
 
 use crate::comparing::{mark_among, mark_changed, unmark};
 use crate::entry::Entry;
+use crate::finding::finds_in;
 use crate::looking::best_in;
 use crate::revising::{copy_among, copy_table, keep_held, revise_all};
+use crate::sought::reaching;
 use crate::summaries::Summaries;
 use crate::trimming::{give_up, given_up};
 use crate::worth::flow_worth;
@@ -69,6 +71,15 @@ impl Store {
         ensures sound { IsStore self.now }
     {
         best_in(&self.entries, &self.summaries, prefix.entries())
+    }
+
+    /// Whether a firm cycle applies to the branches with these picks, or, where a value is given, a flow that is worth at
+    /// least so much.
+    pub fn reaches(&self, prefix: &Prefix, least: Option<i128>) -> bool
+        ensures { MatchBool result (Reaches self.now prefix.now least)
+            (Reaches self.now prefix.now least → ⊥) }
+    {
+        finds_in(&self.entries, &self.summaries, reaching(least), prefix.entries())
     }
 
     /// Adds a conflict under a key that has none, and gives it back where there is no memory. It is to exceed the

@@ -5,9 +5,9 @@ ghost use Rattle.uhura_conflict.specs.declared.entry.Entry.{Entry};
 ghost use Rattle.uhura_conflict.specs.Literals.{Asks};
 ghost use Rattle.uhura_conflict.specs.Summaries.{Covers, IsCoveredBy, CannotMatter};
 
-use crate::Bound;
-use crate::entry::{Entry, exceeds};
+use crate::entry::Entry;
 use crate::literals::applies;
+use crate::sought::{Sought, is_sought};
 use uhura_choice::Pick;
 use uhura_plan::CHOICES;
 
@@ -80,13 +80,13 @@ fn greater(a: i128, b: i128) -> i128
     if a < b { b } else { a }
 }
 
-/// Whether an entry of a block may change what is known of the branches with these picks.
-pub(crate) fn may_matter(summary: &Option<Summary>, best: Bound, picks: &[Pick]) -> bool
-    ensures { IsFalse result → CannotMatter summary.now picks.now best }
+/// Whether an entry of a block may be looked for and apply to these picks.
+pub(crate) fn may_matter(summary: &Option<Summary>, sought: Sought, picks: &[Pick]) -> bool
+    ensures { IsFalse result → CannotMatter summary.now picks.now sought }
 {
     match summary {
         Some(summary) => {
-            exceeds(best, summary.stuck, summary.greatest) && applies(&summary.literals, picks)
+            is_sought(sought, summary.stuck, summary.greatest) && applies(&summary.literals, picks)
         }
         None => false,
     }

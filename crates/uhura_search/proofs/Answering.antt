@@ -35,7 +35,7 @@ AreDenialsNamed state = (prefix : List Pick) (name : List ℕ) → denied_by sta
 
 module _ (state : State) (store : Stored) (named : AreDenialsNamed state) (is_store : IsStoreFor state store) where
   -- what a conflict shows that shuts a prefix
-  conflict-shown : (best : Option Incumbent) (prefix : List Pick) (c : Learned) → IsShutBy state store best prefix c → IsShownBy state (answer_of best) prefix (shown_conflict c)
+  conflict-shown : (best : Option Incumbent) (prefix : List Pick) (c : Learned) → IsShutBy state.plan store best prefix c → IsShownBy state (answer_of best) prefix (shown_conflict c)
   conflict-shown best prefix c by_it = by_kind best by_it.enough
     where
       known : IsKnownAt state store prefix c

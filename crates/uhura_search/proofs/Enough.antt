@@ -1,6 +1,6 @@
 -- When a value is enough: by how the prefix stands to the best branch.
 use Rattle.std.proofs.Common.{◌≡◌, List, Option, Some, None, [], ◌∷◌, length, ◌++◌, inl, inr, sym, ap, ◌∙◌, subst, arith, append-nil, length-append}
-use Rattle.std.specs.Prelude.{ℤ, ◌≤ℤ◌, ◌<ℤ◌, ◌⊎◌, Bool, true, false, int_lt, int_le, nat_eq}
+use Rattle.std.specs.Prelude.{ℤ, pos, ◌+ℤ◌, ◌≤ℤ◌, ◌<ℤ◌, ◌⊎◌, ◌↔◌, Bool, true, false, int_lt, int_le, nat_eq}
 use Rattle.std.specs.Bool.{MatchBool}
 use Rattle.std.specs.Int.{w128}
 use Rattle.std.proofs.Common.{to_z, of_z, SFits}
@@ -12,6 +12,7 @@ use Rattle.uhura_choice.specs.Branch.{IsBranch, IsPrefix, IsEarlier}
 use Rattle.uhura_choice.specs.Order.{IsFrontOf}
 use Rattle.uhura_choice.proofs.Prefixes.{length-follows, prefix-few}
 use Rattle.uhura_choice.proofs.Earlier.{earlier-irreflexive, earlier-trans, begins-not_earlier, begun-not_earlier}
+use Rattle.uhura_conflict.specs.Store.{IsReachedBy}
 use Rattle.uhura_search.specs.declared.incumbent.Incumbent.{Incumbent}
 use Rattle.uhura_search.specs.Shut.{IsEnough, IsDear, left_of}
 
@@ -35,9 +36,6 @@ earlier-enough plan best prefix value earlier less = record {
   more = λ _. omega (arith, ints);
 }
 
-pub earlier-not_enough : (plan : Lists) (best : Incumbent) (prefix : List Pick) (value : ℤ) → IsEarlier prefix best.branch → value ≤ℤ left_of plan best prefix → IsEnough plan best prefix value → ⊥
-earlier-not_enough plan best prefix value earlier less enough = let least = enough.more earlier in omega (arith, ints)
-
 -- one that is later
 pub later-enough : (plan : Lists) (best : Incumbent) (prefix : List Pick) (value : ℤ) → IsEarlier best.branch prefix → left_of plan best prefix ≤ℤ value → IsEnough plan best prefix value
 later-enough plan best prefix value later least = record {
@@ -45,9 +43,6 @@ later-enough plan best prefix value later least = record {
   least = omega (arith, ints);
   more = λ earlier. absurd (earlier-irreflexive prefix (earlier-trans prefix best.branch prefix earlier later));
 }
-
-pub less-not_enough : (plan : Lists) (best : Incumbent) (prefix : List Pick) (value : ℤ) → value <ℤ left_of plan best prefix → IsEnough plan best prefix value → ⊥
-less-not_enough plan best prefix value less enough = let least = enough.least in omega (arith, ints)
 
 -- two of which the one begins the other, and that are as long, are the same
 pub front-same : (one other : List Pick) → IsFrontOf one other → length one ≡ length other → one ≡ other
@@ -74,7 +69,7 @@ same-enough plan best prefix value one long least =
     }
 
 -- and a proper prefix of it
-pub proper-not_enough : (plan : Lists) (best : Incumbent) (prefix : List Pick) (value : ℤ) → IsPrefix plan.choices prefix → IsBranch plan.choices best.branch →
+proper-not_enough : (plan : Lists) (best : Incumbent) (prefix : List Pick) (value : ℤ) → IsPrefix plan.choices prefix → IsBranch plan.choices best.branch →
     IsFrontOf prefix best.branch ⊎ IsFrontOf best.branch prefix → (length prefix ≡ length best.branch → ⊥) → IsEnough plan best prefix value → ⊥
 proper-not_enough plan best prefix value is is_branch (inl begins) other enough = other (ap length (enough.whole begins))
 proper-not_enough plan best prefix value is is_branch (inr begins) other enough =
@@ -82,6 +77,39 @@ proper-not_enough plan best prefix value is is_branch (inr begins) other enough 
     let whole = length-follows best.branch plan.choices [] is_branch in
     let long = ap length begins.1 ∙ length-append best.branch begins.0 in
     other (omega (arith, few, whole, long))
+
+-- so the least value that is enough is what is left, and 1 more for an earlier prefix
+pub earlier-least : (plan : Lists) (best : Incumbent) (prefix : List Pick) (least : ℤ) → IsEarlier prefix best.branch → least ≡ left_of plan best prefix +ℤ pos 1 → (value : ℤ) →
+    IsEnough plan best prefix value ↔ (least ≤ℤ value)
+earlier-least plan best prefix least earlier is value = (
+  λ enough. let more = enough.more earlier in omega (arith, ints, is),
+  λ reached. earlier-enough plan best prefix value earlier (omega (arith, ints, is, reached)),
+)
+
+pub later-least : (plan : Lists) (best : Incumbent) (prefix : List Pick) (least : ℤ) → IsEarlier best.branch prefix → least ≡ left_of plan best prefix → (value : ℤ) →
+    IsEnough plan best prefix value ↔ (least ≤ℤ value)
+later-least plan best prefix least later is value = (
+  λ enough. let most = enough.least in omega (arith, ints, is),
+  λ reached. later-enough plan best prefix value later (omega (arith, ints, is, reached)),
+)
+
+pub same-least : (plan : Lists) (best : Incumbent) (prefix : List Pick) (least : ℤ) → IsFrontOf prefix best.branch ⊎ IsFrontOf best.branch prefix → length prefix ≡ length best.branch →
+    least ≡ left_of plan best prefix → (value : ℤ) → IsEnough plan best prefix value ↔ (least ≤ℤ value)
+same-least plan best prefix least one long is value = (
+  λ enough. let most = enough.least in omega (arith, ints, is),
+  λ reached. same-enough plan best prefix value one long (omega (arith, ints, is, reached)),
+)
+
+pub proper-least : (plan : Lists) (best : Incumbent) (prefix : List Pick) → IsPrefix plan.choices prefix → IsBranch plan.choices best.branch →
+    IsFrontOf prefix best.branch ⊎ IsFrontOf best.branch prefix → (length prefix ≡ length best.branch → ⊥) → (value : ℤ) → IsEnough plan best prefix value ↔ IsReachedBy None value
+proper-least plan best prefix is is_branch one other value = (proper-not_enough plan best prefix value is is_branch one other, λ none. absurd none)
+
+-- a value that is enough reaches the least, and no other does
+pub dear-match : (test : Bool) (plan : Lists) (best : Option Incumbent) (prefix : List Pick) (least : Option ℤ) (value : ℤ) →
+    ((v : ℤ) → IsDear plan best prefix v ↔ IsReachedBy least v) → MatchBool test (IsReachedBy least value) (IsReachedBy least value → ⊥) →
+    MatchBool test (IsDear plan best prefix value) (IsDear plan best prefix value → ⊥)
+dear-match true plan best prefix least value same reached = (same value).1 reached
+dear-match false plan best prefix least value same none = λ dear. none ((same value).0 dear)
 
 -- what a test of two integers says
 pub lt-true : (a b : ℤ) → int_lt a b ≡ true → a <ℤ b
@@ -95,10 +123,6 @@ le-true a b is = by_lt_z {P = a ≤ℤ b} b a (λ less. grind (arith, ints, nat_
 
 le-false : (a b : ℤ) → int_le a b ≡ false → b <ℤ a
 le-false a b is = by_lt_z {P = b <ℤ a} b a (λ less. less) (λ least. grind (arith, ints, nat_tests))
-
-pub match-lt : (test : Bool) (a b : ℤ) (P : Type 0) → test ≡ int_lt a b → (a <ℤ b → P) → (b ≤ℤ a → P → ⊥) → MatchBool test P (P → ⊥)
-match-lt true a b P is holds fails = holds (lt-true a b (sym is))
-match-lt false a b P is holds fails = fails (lt-false a b (sym is))
 
 pub match-le : (test : Bool) (a b : ℤ) (P : Type 0) → test ≡ int_le a b → (a ≤ℤ b → P) → (b <ℤ a → P → ⊥) → MatchBool test P (P → ⊥)
 match-le true a b P is holds fails = holds (le-true a b (sym is))

@@ -41,18 +41,23 @@ IsDear plan None prefix value = ⊥
 IsDear plan (Some best) prefix value = IsEnough plan best prefix value
 
 -- a conflict that applies shuts the prefix: it is a firm cycle, or a flow whose value is enough
-pub record IsShutBy (state : State) (store : Stored) (best : Option Incumbent)
+pub record IsShutBy (plan : Lists) (store : Stored) (best : Option Incumbent)
     (prefix : List Pick) (conflict : Learned) : Type 0 where
   pub key : ℕ
   pub applies : AppliesAt store prefix key conflict
   pub enough : IsTrue conflict.stuck
-      ⊎ (IsFalse conflict.stuck × IsDear state.plan best prefix (value_at store conflict))
+      ⊎ (IsFalse conflict.stuck × IsDear plan best prefix (value_at store conflict))
+
+-- the costs picked in the prefix are enough alone, or a conflict shuts it
+abbrev pub IsHopeless : Lists → Stored → Option Incumbent → List Pick → Type 0
+IsHopeless plan store best prefix = IsDear plan best prefix (pos 0)
+    ⊎ ((conflict : Learned) × IsShutBy plan store best prefix conflict)
 
 -- a prefix is shut for this reason
 abbrev pub IsReason : State → Stored → Option Incumbent → List Pick → LeafReason → Type 0
 IsReason state store best prefix (Denied name) = denied_by state.vetoes prefix ≡ Some name
 IsReason state store best prefix Empty = IsDear state.plan best prefix (pos 0)
-IsReason state store best prefix (LearnedOf conflict) = IsShutBy state store best prefix conflict
+IsReason state store best prefix (LearnedOf conflict) = IsShutBy state.plan store best prefix conflict
 
 -- a prefix is shut where there is a reason
 pub record IsShut (state : State) (store : Stored) (best : Option Incumbent) (prefix : List Pick)

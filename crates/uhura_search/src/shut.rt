@@ -1,9 +1,9 @@
 //! Whether a prefix is shut, and why.
-ghost use Rattle.std.specs.Prelude.{◌≡◌, IfOk, IfSome, MatchBool, option_map, length, nat_eq, int_lt, int_le};
+ghost use Rattle.std.specs.Prelude.{◌≡◌, ◌↔◌, ◌^◌, ◌≤ℤ◌, ℤ, pos, IfOk, IfSome, MatchBool, option_map, length, nat_eq, int_lt, int_le};
 ghost use Rattle.uhura_choice.specs.Branch.{IsBranch, IsPrefix};
 ghost use Rattle.uhura_veto.specs.State.{State};
-ghost use Rattle.uhura_conflict.specs.Store.{conflict_at};
-ghost use Rattle.uhura_search.specs.Shut.{IsSmallCost, IsDear, IsEnough, IsShut, FindsReason, left_of};
+ghost use Rattle.uhura_conflict.specs.Store.{conflict_at, IsReachedBy};
+ghost use Rattle.uhura_search.specs.Shut.{IsSmallCost, IsDear, IsEnough, IsHopeless, IsShut, FindsReason, left_of};
 
 use crate::LeafReason;
 use crate::incumbent::Incumbent;
@@ -31,22 +31,13 @@ pub(crate) fn reason_of(
     if let Some(name) = denied_by(vetoes, prefix) {
         return Ok(Some(LeafReason::Denied(name)));
     }
+    if !is_hopeless(plan, store, best, prefix) {
+        return Ok(None);
+    }
     match store.best(prefix) {
         Bound::Stuck { key } => learned(store, key),
-        Bound::Flow { value, key } => {
-            if is_dear(plan, best, prefix, value) {
-                learned(store, key)
-            } else {
-                Ok(None)
-            }
-        }
-        Bound::Nothing => {
-            if is_dear(plan, best, prefix, 0) {
-                Ok(Some(LeafReason::Empty))
-            } else {
-                Ok(None)
-            }
-        }
+        Bound::Flow { key, .. } => learned(store, key),
+        Bound::Nothing => Ok(Some(LeafReason::Empty)),
     }
 }
 
@@ -68,11 +59,22 @@ pub(crate) fn is_shut(
     if denied_by(vetoes, prefix).is_some() {
         return true;
     }
-    match store.best(prefix) {
-        Bound::Stuck { .. } => true,
-        Bound::Flow { value, .. } => is_dear(plan, best, prefix, value),
-        Bound::Nothing => is_dear(plan, best, prefix, 0),
+    is_hopeless(plan, store, best, prefix)
+}
+
+/// Whether the costs picked in the prefix are enough alone, or a conflict that applies shuts it.
+fn is_hopeless(plan: &Plan, store: &Store, best: &Option<Incumbent>, prefix: &Prefix) -> bool
+    requires prefix { IsPrefix plan.now.choices prefix.now }
+    requires branch { IfSome best.now (λ i. IsBranch plan.now.choices i.branch) }
+    requires small { IfSome best.now IsSmallCost }
+    ensures { MatchBool result (IsHopeless plan.now store.now best.now prefix.now)
+        (IsHopeless plan.now store.now best.now prefix.now → ⊥) }
+{
+    let least = least_enough(plan, best, prefix);
+    if is_reached(least, 0) {
+        return true;
     }
+    store.reaches(prefix, least)
 }
 
 /// The conflict under the key as a reason, if there is one.
@@ -94,32 +96,59 @@ pub(crate) fn is_dear(plan: &Plan, best: &Option<Incumbent>, prefix: &Prefix, va
     ensures { MatchBool result (IsDear plan.now best.now prefix.now value)
         (IsDear plan.now best.now prefix.now value → ⊥) }
 {
-    match best {
-        Some(best) => is_enough(plan, best, prefix, value),
+    is_reached(least_enough(plan, best, prefix), value)
+}
+
+/// Whether the value is no less than the one given, if one is.
+fn is_reached(least: Option<i128>, value: i128) -> bool
+    ensures { MatchBool result (IsReachedBy least value) (IsReachedBy least value → ⊥) }
+{
+    match least {
+        Some(least) => is_at_most(least, value),
         None => false,
     }
 }
 
-/// Whether they are as much as the best so far costs, or more where the prefix is earlier.
-fn is_enough(plan: &Plan, best: &Incumbent, prefix: &Prefix, value: i128) -> bool
+/// The least value that is enough for the prefix, if one is.
+fn least_enough(plan: &Plan, best: &Option<Incumbent>, prefix: &Prefix) -> Option<i128>
+    requires prefix { IsPrefix plan.now.choices prefix.now }
+    requires branch { IfSome best.now (λ i. IsBranch plan.now.choices i.branch) }
+    requires small { IfSome best.now IsSmallCost }
+    ensures { (value : ℤ) → IsDear plan.now best.now prefix.now value ↔ IsReachedBy result value }
+{
+    match best {
+        Some(best) => least_beside(plan, best, prefix),
+        None => None,
+    }
+}
+
+/// What is left of the cost of the best so far, or 1 more where the prefix is earlier than its branch. Nothing is
+/// enough for a proper prefix of the branch.
+fn least_beside(plan: &Plan, best: &Incumbent, prefix: &Prefix) -> Option<i128>
     requires prefix { IsPrefix plan.now.choices prefix.now }
     requires branch { IsBranch plan.now.choices best.now.branch }
     requires small { IsSmallCost best.now }
-    ensures { MatchBool result (IsEnough plan.now best.now prefix.now value)
-        (IsEnough plan.now best.now prefix.now value → ⊥) }
+    ensures { (value : ℤ) → IsEnough plan.now best.now prefix.now value ↔ IsReachedBy result value }
 {
-    let least = left_of(plan, best, prefix);
+    let left = left_of(plan, best, prefix);
     match compare(prefix, &best.branch) {
-        Ordering::Less => is_less(least, value),
-        Ordering::Equal => is_as_long(prefix, &best.branch) && is_at_most(least, value),
-        Ordering::Greater => is_at_most(least, value),
+        Ordering::Less => Some(left + 1),
+        Ordering::Equal => {
+            if is_as_long(prefix, &best.branch) {
+                Some(left)
+            } else {
+                None
+            }
+        }
+        Ordering::Greater => Some(left),
     }
 }
 
 /// What is left of the cost of the best so far when the picks are paid.
 fn left_of(plan: &Plan, best: &Incumbent, prefix: &Prefix) -> i128
     requires { IsSmallCost best.now }
-    ensures { result ≡ left_of plan.now best.now prefix.now }
+    ensures left { result ≡ left_of plan.now best.now prefix.now }
+    ensures small { result ≤ℤ pos (2 ^ 100) }
 {
     best.cost as i128 - i128::from(picked_cost(plan, prefix))
 }

@@ -1,10 +1,11 @@
-use Rattle.std.proofs.Common.{◌≡◌, ◌+◌, ◌*◌, ◌/◌, ◌<◌, ◌≤◌, ℕ, List, Option, length, subst, sym, arith}
+use Rattle.std.proofs.Common.{◌≡◌, ◌+◌, ◌*◌, ◌/◌, ◌<◌, ◌≤◌, ℕ, List, Option, None, get_or, length, subst, sym, arith}
 use Rattle.uhura_conflict.specs.declared.bound.Bound.{Bound}
+use Rattle.uhura_conflict.specs.declared.sought.Sought.{Sought}
 use Rattle.uhura_conflict.specs.declared.summary.Summary.{Summary}
 use Rattle.uhura_conflict.specs.declared.summaries.TheConstants.{GROUP}
 use Rattle.uhura_conflict.specs.Store.{AppliesAt, value_at}
 use Rattle.uhura_conflict.specs.Entries.{shown_as, IsBestBelow}
-use Rattle.uhura_conflict.specs.Summaries.{AreCovered}
+use Rattle.uhura_conflict.specs.Summaries.{AreCovered, CannotMatter}
 use Rattle.uhura_conflict.proofs.Greatest.{best-none, best-all}
 use Rattle.uhura_conflict.proofs.Summing.{best-passed_block}
 use Rattle.uhura_conflict.proofs.looking.best_in.Goals as goal
@@ -27,7 +28,7 @@ loop-group-preserved c =
           subst Is (sym w.best-is)
           (best-passed_block GROUP c.deref.result.now entries picks c.loop-group.best group
           (subst (λ (groups : List (Option Summary)). AreCovered GROUP groups entries) (sym c.deref.ensures.value) c.requires.groups)
-          (c.may_matter_in.ensures w.if-may_matter_in.false) (λ key least less. omega arith) c.loop-group.invariant)
+          (subst (λ (s : Sought). CannotMatter (get_or c.deref.result.now c.loop-group.group None) picks s) c.beyond.ensures (c.may_matter_in.ensures w.if-may_matter_in.false)) (λ key least less. omega arith) c.loop-group.invariant)
     ])
 
 pub returns : goal.returns

@@ -1,12 +1,13 @@
-use Rattle.std.proofs.Common.{◌≡◌, ◌+◌, ◌*◌, None, sym, subst, ap, ◌∙◌, arith}
+use Rattle.std.proofs.Common.{◌≡◌, ◌+◌, ◌*◌, true, false, None, sym, subst, ap, ◌∙◌, arith}
 use Rattle.std.specs.Prelude.{option_copied}
 use Rattle.slab.specs.Slab.{get}
 use Rattle.uhura_conflict.specs.declared.bound.Bound.{Bound}
+use Rattle.uhura_conflict.specs.declared.sought.Sought.{Sought}
 use Rattle.uhura_conflict.specs.declared.summaries.TheConstants.{BLOCK}
-use Rattle.uhura_conflict.specs.Entries.{IsBestBelow}
+use Rattle.uhura_conflict.specs.Entries.{is_sought, IsBestBelow}
 use Rattle.uhura_conflict.proofs.Greatest.{true_false, best-exceeded, best-unexceeded, best-at_none}
 use Rattle.uhura_conflict.proofs.looking.best_in_block.Goals as goal
-use Rattle.uhura_conflict.proofs.looking.best_in_block.Goals.{in-Some+then-exceeds+then-applies, in-Some+else-exceeds, else-exceeds-via-then-exceeds+else-applies, else-exceeds-via-else-exceeds, in_default}
+use Rattle.uhura_conflict.proofs.looking.best_in_block.Goals.{in-Some+then-is_sought+then-applies, in-Some+else-is_sought, else-is_sought-via-then-is_sought+else-applies, else-is_sought-via-else-is_sought, in_default}
 
 pub loop-place-init : goal.loop-place-init
 loop-place-init c =
@@ -24,16 +25,16 @@ loop-place-preserved c =
     let next : n + 1 ≡ c.args.block * BLOCK + (c.loop-place.place + 1) = omega arith in
     subst (λ k. IsBestBelow k entries picks c.match-get.best) next
     (elim c.match-get.branch [
-      | in-Some+then-exceeds+then-applies w ↦
+      | in-Some+then-is_sought+then-applies w ↦
           subst Is (sym w.best-is) (subst Is (sym w.bound_of-best.ensures) (λ order table worth.
           best-exceeded entries order table picks n w.in-Some.entry.now best (sym w.in-Some.ensures) (w.applies.ensures.0 w.if-applies.true)
-          (sym w.exceeds.ensures ∙ w.if-exceeds.true) worth (so_far order table worth)))
-      | in-Some+else-exceeds w ↦ subst Is (sym w.best-is) (elim w.else-exceeds.branch [
-        | else-exceeds-via-then-exceeds+else-applies v ↦ λ order table worth.
+          (subst (λ (s : Sought). is_sought s w.in-Some.entry.now ≡ true) w.beyond.ensures (sym w.is_sought.ensures ∙ w.if-is_sought.true)) worth (so_far order table worth)))
+      | in-Some+else-is_sought w ↦ subst Is (sym w.best-is) (elim w.else-is_sought.branch [
+        | else-is_sought-via-then-is_sought+else-applies v ↦ λ order table worth.
             best-unexceeded entries order table picks n w.in-Some.entry.now best (sym w.in-Some.ensures) (λ it. absurd (true_false (v.applies.ensures.1 it) v.if-applies.false)) worth
             (so_far order table worth)
-        | else-exceeds-via-else-exceeds v ↦ λ order table worth.
-            best-unexceeded entries order table picks n w.in-Some.entry.now best (sym w.in-Some.ensures) (λ it. sym w.exceeds.ensures ∙ v.if-exceeds.false) worth (so_far order table worth)
+        | else-is_sought-via-else-is_sought v ↦ λ order table worth.
+            best-unexceeded entries order table picks n w.in-Some.entry.now best (sym w.in-Some.ensures) (λ it. subst (λ (s : Sought). is_sought s w.in-Some.entry.now ≡ false) w.beyond.ensures (sym w.is_sought.ensures ∙ v.if-is_sought.false)) worth (so_far order table worth)
       ])
       | in_default w ↦
           let none : get entries n ≡ None = sym c.get.ensures ∙ ap option_copied w.in_default.is in

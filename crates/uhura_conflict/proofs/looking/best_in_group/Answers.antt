@@ -1,7 +1,9 @@
-use Rattle.std.proofs.Common.{◌≡◌, ◌+◌, ◌*◌, ◌/◌, ◌<◌, ◌≤◌, ℕ, subst, sym, arith}
+use Rattle.std.proofs.Common.{◌≡◌, ◌+◌, ◌*◌, ◌/◌, ◌<◌, ◌≤◌, ℕ, None, get_or, subst, sym, arith}
 use Rattle.uhura_conflict.specs.declared.bound.Bound.{Bound}
+use Rattle.uhura_conflict.specs.declared.sought.Sought.{Sought}
 use Rattle.uhura_conflict.specs.declared.summaries.TheConstants.{BLOCK, BLOCKS, GROUP}
 use Rattle.uhura_conflict.specs.Entries.{IsBestBelow}
+use Rattle.uhura_conflict.specs.Summaries.{CannotMatter}
 use Rattle.uhura_conflict.proofs.Summing.{best-passed_block}
 use Rattle.uhura_conflict.proofs.looking.best_in_group.Goals as goal
 use Rattle.uhura_conflict.proofs.looking.best_in_group.Goals.{then-may_matter_in, else-may_matter_in}
@@ -23,7 +25,7 @@ loop-place-preserved c =
       | then-may_matter_in w ↦ subst Is (sym w.best-is) w.best_in_block-best.ensures
       | else-may_matter_in w ↦
           subst Is (sym w.best-is)
-          (best-passed_block BLOCK c.args.blocks.now entries picks c.loop-place.best block c.requires.covered (c.may_matter_in.ensures w.if-may_matter_in.false) (λ key least less. omega arith)
+          (best-passed_block BLOCK c.args.blocks.now entries picks c.loop-place.best block c.requires.covered (subst (λ (s : Sought). CannotMatter (get_or c.args.blocks.now block None) picks s) c.beyond.ensures (c.may_matter_in.ensures w.if-may_matter_in.false)) (λ key least less. omega arith)
           c.loop-place.invariant)
     ])
 

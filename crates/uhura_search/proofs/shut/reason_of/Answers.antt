@@ -1,15 +1,32 @@
-use Rattle.std.specs.Int.{w128}
-use Rattle.std.proofs.Common.{rules, SFits, to_z, of_z, ◌≡◌, sym, subst}
-use Rattle.std.proofs.lemmas.Int.{to_z-of_z}
+use Rattle.std.proofs.Common.{sym}
+use Rattle.std.proofs.lemmas.Result.{IfOk-weaker}
+use Rattle.std.specs.Prelude.{◌≡◌, option_map}
 use Rattle.uhura_veto.specs.State.{State}
-use Rattle.uhura_search.specs.Shut.{IsDear}
-use Rattle.uhura_search.proofs.Reasons.{flow-open}
+use Rattle.uhura_conflict.specs.Store.{conflict_at}
+use Rattle.uhura_search.specs.declared.leaf.LeafReason.TheVariants.{Learned as LearnedOf}
+use Rattle.uhura_search.specs.Shut.{FindsReason}
+use Rattle.uhura_search.proofs.Reasons.{stuck-found, flow-found, nothing-dear, not-hopeless_open}
 use Rattle.uhura_search.proofs.shut.reason_of.Goals as goal
 
-pub returns-else-is_dear : goal.returns-else-is_dear
-returns-else-is_dear c =
+pub returns-then-not-is_hopeless : goal.returns-then-not-is_hopeless
+returns-then-not-is_hopeless c =
     let state : State = record { plan = c.args.plan.now; vetoes = c.args.vetoes.now } in
-    let fits : SFits w128 c.in-Flow.value = search rules in
-    let value : to_z w128 (of_z w128 c.in-Flow.value) ≡ c.in-Flow.value = to_z-of_z w128 c.in-Flow.value fits in
-    flow-open state c.args.store.now c.args.best.now c.args.prefix.now c.in-Flow.value c.in-Flow.key (sym c.in_default.ensures.first) c.in-Flow.ensures.best
-    (subst (λ v. IsDear c.args.plan.now c.args.best.now c.args.prefix.now v → ⊥) value c.if-is_dear.ensures)
+    not-hopeless_open state c.args.store.now c.args.best.now c.args.prefix.now (sym c.in_default.ensures.first) c.if-not-is_hopeless.ensures
+
+pub returns-in-Stuck : goal.returns-in-Stuck
+returns-in-Stuck c =
+    let state : State = record { plan = c.args.plan.now; vetoes = c.args.vetoes.now } in
+    let store = c.args.store.now in
+    IfOk-weaker c.learned.result (λ reason. reason ≡ option_map (λ c. LearnedOf c) (conflict_at store c.in-Stuck.key)) (FindsReason state store c.args.best.now c.args.prefix.now)
+    (λ reason is. stuck-found state store c.args.best.now c.args.prefix.now c.in-Stuck.key reason c.in-Stuck.ensures.best is) c.learned.ensures
+
+pub returns-in-Flow : goal.returns-in-Flow
+returns-in-Flow c =
+    let state : State = record { plan = c.args.plan.now; vetoes = c.args.vetoes.now } in
+    let store = c.args.store.now in
+    IfOk-weaker c.learned-in-Flow.result (λ reason. reason ≡ option_map (λ c. LearnedOf c) (conflict_at store c.in-Flow.key)) (FindsReason state store c.args.best.now c.args.prefix.now)
+    (λ reason is. flow-found state store c.args.best.now c.args.prefix.now c.in-Flow.value c.in-Flow.key reason c.in-Flow.ensures.best c.if-not-is_hopeless.ensures is) c.learned-in-Flow.ensures
+
+pub returns-in-Nothing : goal.returns-in-Nothing
+returns-in-Nothing c =
+    nothing-dear c.args.plan.now c.args.store.now c.args.best.now c.args.prefix.now c.in-Nothing.ensures.best c.if-not-is_hopeless.ensures
