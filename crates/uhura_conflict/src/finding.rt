@@ -47,7 +47,8 @@ fn finds_in_group(
 {
     for place in 0..BLOCKS {
         let block = group * BLOCKS + place;
-        if may_matter_in(blocks, block, sought, picks) && finds_in_block(entries, block, sought, picks)
+        if may_matter_in(blocks, block, sought, picks)
+            && finds_in_block(entries, block, sought, picks)
         {
             return true;
         }

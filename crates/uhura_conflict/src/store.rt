@@ -79,7 +79,12 @@ impl Store {
         ensures { MatchBool result (Reaches self.now prefix.now least)
             (Reaches self.now prefix.now least → ⊥) }
     {
-        finds_in(&self.entries, &self.summaries, reaching(least), prefix.entries())
+        finds_in(
+            &self.entries,
+            &self.summaries,
+            reaching(least),
+            prefix.entries(),
+        )
     }
 
     /// Adds a conflict under a key that has none, and gives it back where there is no memory. It is to exceed the

@@ -40,7 +40,7 @@ flow-shuts : (plan : Lists) (store : Stored) (best : Option Incumbent) (prefix :
     IsShutBy plan store best prefix is.1.conflict
 flow-shuts plan store best prefix value key is hopeless =
     let dear : IsDear plan best prefix value = dear-most plan store best prefix value (let above = is.1.above in omega (arith, ints))
-        (λ other c applies. (is.0 other c applies, no_more (value_at store c) value key other (is.1.greatest other c applies))) hopeless in
+    (λ other c applies. (is.0 other c applies, no_more (value_at store c) value key other (is.1.greatest other c applies))) hopeless in
     record {
       key = key;
       applies = is.1.there;
