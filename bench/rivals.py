@@ -59,7 +59,7 @@ def cbc_cost(_told, out):
 
 
 RIVALS = [
-    Rival("glpsol", [[], ["--cuts"]], glpsol_command, glpsol_cost),
+    Rival("glpsol", [[], ["--cuts"], ["--pcost"]], glpsol_command, glpsol_cost),
     Rival("cbc", [[]], cbc_command, cbc_cost),
 ]
 
