@@ -1,10 +1,13 @@
-"""One program run on one input: how long it took by the clock, from the start of its process to its end."""
+"""One program run on one input: how much of a processor's time its process took, from its start to its end.
+
+All programs here work on one processor and wait for nothing, so on an idle machine that is the time by the clock. On a
+busy one it says more than the clock.
+"""
 
 import os
 import statistics
 import subprocess
 import tempfile
-import time
 from dataclasses import dataclass
 from pathlib import Path
 
@@ -21,7 +24,7 @@ class Run:
 
 
 def run_once(words, source=b""):
-    """One run, with no more of Python in its time than the start of a process takes."""
+    """One run, with nothing of Python in its time but the start of the process."""
     with tempfile.NamedTemporaryFile() as put, tempfile.NamedTemporaryFile() as came:
         put.write(source)
         put.flush()
@@ -30,11 +33,9 @@ def run_once(words, source=b""):
             (os.POSIX_SPAWN_OPEN, 1, came.name, os.O_WRONLY, 0),
             (os.POSIX_SPAWN_DUP2, 1, 2),
         ]
-        began = time.perf_counter()
         process = os.posix_spawnp(words[0], words, os.environ, file_actions=streams)
-        ended = os.waitpid(process, 0)[1]
-        seconds = time.perf_counter() - began
-        return Run(seconds, os.waitstatus_to_exitcode(ended), came.read().decode())
+        _, ended, used = os.wait4(process, 0)
+        return Run(used.ru_utime + used.ru_stime, os.waitstatus_to_exitcode(ended), came.read().decode())
 
 
 def median_of(runs, words, source=b""):
