@@ -9,13 +9,13 @@ from pathlib import Path
 
 from measure import run_once
 
+# What takes a rival less than so many seconds is run as often as the program itself.
 SHORT = 1.0
-"""What takes less than so many seconds is run as often as the program itself."""
 
 
 @dataclass
 class Rival:
-    """A program, the options of which the fastest counts, and what makes of its run a cost."""
+    """A program, the options of which the fastest counts, how it is run with some, and how its cost is read."""
 
     name: str
     settings: list
@@ -31,6 +31,7 @@ class TooLong(Exception):
 
 
 def glpsol_command(options, path, out, limit):
+    """How glpsol is run on the program at the path."""
     return ["glpsol", *options, "--lp", path, "--tmlim", limit, "-w", out]
 
 
@@ -45,6 +46,7 @@ def glpsol_cost(told, out):
 
 
 def cbc_command(options, path, out, limit):
+    """How cbc is run on the program at the path."""
     return ["cbc", path, "-sec", limit, *options, "-solve", "-solution", out]
 
 
