@@ -1,7 +1,7 @@
 """One program run on one input: how much of a processor's time its process took, from its start to its end.
 
-All programs here work on one processor and wait for nothing, so on an idle machine that is the time by the clock. On a
-busy one it says more than the clock.
+All programs here work on one processor and wait for nothing, so on an idle machine that is the time by the clock. On
+a busy one it says more than the clock.
 """
 
 import os

@@ -1,8 +1,8 @@
 """Plans as a benchmark makes them: as a script of Uhura, and as a mixed integer program for glpsol.
 
-The program has a time for each controllable event, a binary for each alternative, one that says whether a choice or a
-requirement is active, and for each priced side its units, split where a second price begins. A requirement bounds the
-difference of two times at the worst lengths that are left to the durations. The earliest schedule ends no later than
+The program has a time for each controllable event, a binary for each alternative, one that says whether what has a
+guard of several literals is active, and for each priced side its units, split where a second price begins. A
+requirement bounds the difference of two times at the worst lengths that are left to the durations. The earliest schedule ends no later than
 the horizon, which is what all events wait at most, one after the other; so where a requirement isn't active, its bound
 is lifted by as much as two times within the horizon need, and no more. The objective is what is picked, loosened and
 narrowed.
@@ -147,7 +147,7 @@ class Program:
         self.rows.append(f" {name}: " + " ".join(f"{c:+d} {v}" for c, v in terms) + f" {relation} {bound}")
 
     def active(self, name, guard):
-        """A binary that is 1 exactly where all literals of the guard are picked; none where there is no guard."""
+        """A binary that is 1 exactly where all literals of the guard are picked; none for an empty guard."""
         if not guard:
             return None
         if len(guard) == 1:
