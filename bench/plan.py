@@ -2,10 +2,10 @@
 
 The program has a time for each controllable event, a binary for each alternative, one that says whether what has a
 guard of several literals is active, and for each priced side its units, split where a second price begins. A
-requirement bounds the difference of two times at the worst lengths that are left to the durations. The earliest schedule ends no later than
-the horizon, which is what all events wait at most, one after the other; so where a requirement isn't active, its bound
-is lifted by as much as two times within the horizon need, and no more. The objective is what is picked, loosened and
-narrowed.
+requirement bounds the difference of two times at the worst lengths that are left to the durations. The earliest
+schedule ends no later than the horizon, which is what all events wait at most, one after the other; so where a
+requirement isn't active, its bound is lifted by as much as two times within the horizon need, and no more. The
+objective is what is picked, loosened and narrowed.
 """
 
 from dataclasses import dataclass, field, replace
