@@ -1,9 +1,11 @@
 """Plans as a benchmark makes them: as a script of Uhura, and as a mixed integer program for glpsol.
 
-The program has a time from 0 on for each controllable event, a binary for each alternative, one that says whether a
-choice or a requirement is active, and for each priced side its units, split where a second price begins. A requirement
-bounds the difference of two times at the worst lengths that are left to the durations; where it isn't active, a great
-number lifts the bound. The objective is what is picked, loosened and narrowed.
+The program has a time for each controllable event, a binary for each alternative, one that says whether what has a
+guard of several literals is active, and for each priced side its units, split where a second price begins. A
+requirement bounds the difference of two times at the worst lengths that are left to the durations. The earliest
+schedule ends no later than the horizon, which is what all events wait at most, one after the other; so where a
+requirement isn't active, its bound is lifted by as much as two times within the horizon need, and no more. The
+objective is what is picked, loosened and narrowed.
 """
 
 from dataclasses import dataclass, field, replace
@@ -104,22 +106,33 @@ class Plan:
         return Program(self).text()
 
 
+@dataclass(frozen=True)
+class Bound:
+    """A side of a requirement: one time less another, with what is narrowed, is this number at most."""
+
+    side: str
+    terms: list
+    later: str
+    number: int
+
+
 class Program:
     def __init__(self, plan):
         self.plan = plan
         self.objective, self.rows, self.limits, self.binaries = [], [], [], []
         self.ends = {duration.end: duration for duration in plan.durations}
         self.narrowed = {}
-        bounds = [abs(b) for r in plan.requirements for b in (r.lower, r.upper) if b is not None]
-        self.great = 2 * (sum(bounds) + sum(abs(d.lower) + abs(d.upper) for d in plan.durations)) + 1000
+        self.horizon = 0
 
     def text(self):
         for choice in self.plan.choices:
             self.put_choice(choice)
         for duration in self.plan.durations:
             self.put_duration(duration)
-        for requirement in self.plan.requirements:
-            self.put_requirement(requirement)
+        bounds = [(requirement, self.bounds(requirement)) for requirement in self.plan.requirements]
+        self.put_times(bound for _, both in bounds for bound in both)
+        for requirement, both in bounds:
+            self.put_requirement(requirement, both)
         for name, literals in self.plan.denials:
             self.row(f"v_{name}", [(1, picked(*literal)) for literal in literals], "<=", len(literals) - 1)
         rows = "\n".join(self.rows)
@@ -134,9 +147,11 @@ class Program:
         self.rows.append(f" {name}: " + " ".join(f"{c:+d} {v}" for c, v in terms) + f" {relation} {bound}")
 
     def active(self, name, guard):
-        """A binary that is 1 exactly where all literals of the guard are picked; none where there is no guard."""
+        """A binary that is 1 exactly where all literals of the guard are picked; none for an empty guard."""
         if not guard:
             return None
+        if len(guard) == 1:
+            return picked(*guard[0])
         self.binaries.append(name)
         for place, literal in enumerate(guard):
             self.row(f"{name}_{place}", [(1, name), (-1, picked(*literal))], "<=", 0)
@@ -187,19 +202,39 @@ class Program:
         units = [(turned * count, name) for count, name in self.narrowed[duration.name][side]]
         return [(sign, f"t_{duration.start}"), *units], sign * number
 
-    def put_requirement(self, requirement):
-        active = self.active(f"r_{requirement.name}", requirement.guard)
+    def bounds(self, requirement):
+        """The sides of a requirement that have a bound."""
+        both = []
         for side, bound, sign in (("upper", requirement.upper, 1), ("lower", requirement.lower, -1)):
             if bound is None:
                 continue
             worst, best = ("upper", "lower") if side == "upper" else ("lower", "upper")
-            to, later = self.time(requirement.end, worst, sign)
-            start, earlier = self.time(requirement.start, best, -sign)
-            name = f"l_{requirement.name}_{side}"
-            units = [(-count, part) for count, part in self.units(name, requirement.prices.get(side))]
-            lifted = [(self.great, active)] if active else []
-            number = sign * bound - later - earlier + (self.great if active else 0)
-            self.row(name, merged([*to, *start, *units, *lifted]), "<=", number)
+            to, length_to = self.time(requirement.end, worst, sign)
+            start, length_start = self.time(requirement.start, best, -sign)
+            later = self.base(requirement.start if side == "upper" else requirement.end)
+            both.append(Bound(side, [*to, *start], later, sign * bound - length_to - length_start))
+        return both
+
+    def base(self, event):
+        """The controllable event that an event hangs on."""
+        return self.ends[event].start if event in self.ends else event
+
+    def put_times(self, bounds):
+        """The times, from 0 to the horizon."""
+        waits = {}
+        for bound in bounds:
+            waits[bound.later] = max(waits.get(bound.later, 0), -bound.number)
+        self.horizon = sum(waits.values())
+        self.limits.extend(f" 0 <= t_{event} <= {self.horizon}" for event in self.plan.events)
+
+    def put_requirement(self, requirement, bounds):
+        active = self.active(f"r_{requirement.name}", requirement.guard)
+        for bound in bounds:
+            name = f"l_{requirement.name}_{bound.side}"
+            units = [(-count, part) for count, part in self.units(name, requirement.prices.get(bound.side))]
+            lift = max(0, self.horizon - bound.number) if active else 0
+            lifted = [(lift, active)] if lift else []
+            self.row(name, merged([*bound.terms, *units, *lifted]), "<=", bound.number + lift)
 
 
 def merged(terms):

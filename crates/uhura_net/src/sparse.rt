@@ -1,5 +1,5 @@
 //! Edges at places, of which few have one.
-ghost use Rattle.std.specs.Prelude.{◌≡◌, ◌<◌, None, Some, IfOk, replicate, slice_index_or, slice_set};
+ghost use Rattle.std.specs.Prelude.{◌≡◌, ◌<◌, None, IfOk, replicate, slice_index_or, slice_set};
 
 use crate::{Edge, PLACES, Place};
 use std::alloc::{AllocError, Global};

@@ -1,10 +1,10 @@
 -- A table that is filled anew, item by item.
-use Rattle.std.proofs.Common.{rules, ◌≡◌, ◌≢◌, ◌⊎◌, ℕ, ◌+◌, ◌<◌, ◌≤◌, ◌∷◌, [], Bool, true, false, true≢false, List, length, drop, get_or, set, replicate, Option, Some, None, inl, inr, refl, sym, ap, subst, ◌∙◌, arith, AllPairs, get_or-set_same, get_or-set_other}
-use Rattle.std.specs.Prelude.{Contains, ◌&&◌, IsFalse, IsTrue, IsSome, is_some, slice_get, ◌==◌, if◌then◌else◌, nat_eq, option_and_then}
+use Rattle.std.proofs.Common.{rules, ◌≡◌, ◌≢◌, ◌⊎◌, ℕ, ◌+◌, ◌<◌, ◌≤◌, [], Bool, true, false, true≢false, List, length, drop, get_or, set, replicate, Option, Some, None, inl, inr, refl, sym, ap, subst, ◌∙◌, arith, AllPairs, get_or-set_same, get_or-set_other}
+use Rattle.std.specs.Prelude.{Contains, ◌&&◌, IsSome, is_some, slice_get, ◌==◌, if◌then◌else◌, nat_eq, option_and_then}
 use Rattle.std.proofs.lemmas.Bool.{cases_eq}
 use Rattle.std.proofs.lemmas.Bool.Decides.{Decides-eqb}
 use Rattle.std.proofs.lemmas.List.{drop_more, drop_all}
-use Rattle.std.proofs.lemmas.Option.{slice_get_within, get_or_from_slice_get, slice_get-get_or}
+use Rattle.std.proofs.lemmas.Option.{slice_get_within, slice_get-get_or}
 use Rattle.uhura_plan.specs.declared.requirement.Requirement.{Requirement}
 use Rattle.uhura_plan.specs.declared.uncertain.Uncertain.{Uncertain}
 use Rattle.uhura_plan.specs.declared.limits.TheConstants.{REQUIREMENTS}

@@ -1,6 +1,6 @@
 -- Guards that are written slot by slot, with a mark where a slot had another.
 use Rattle.std.proofs.Common.{◌≡◌, ◌≢◌, ◌⊎◌, ℕ, ◌<◌, ◌∷◌, ◌++◌, [], Bool, true, false, List, length, take, get_or, set, replicate, Option, Some, None, inl, inr, refl, sym, ap, subst, ◌∙◌, arith, AllPairs, length-take-le, length-set, get_or-set_same, get_or-set_other}
-use Rattle.std.specs.Prelude.{Contains, IsFalse, slice_get, ◌==◌, if◌then◌else◌, option_and_then}
+use Rattle.std.specs.Prelude.{Contains, slice_get, ◌==◌, if◌then◌else◌, option_and_then}
 use Rattle.std.specs.Bool.{MatchBool}
 use Rattle.std.proofs.lemmas.Bool.{cases_eq}
 use Rattle.std.proofs.lemmas.Bool.Decides.{Decides-eqb}

@@ -1,9 +1,8 @@
 -- What is kept to learn from, as another table is taken over.
-use Rattle.std.proofs.Common.{◌≡◌, ◌≢◌, ℕ, ◌+◌, ◌<◌, ◌≤◌, Bool, true, false, List, [], length, drop, get_or, replicate, Option, Some, None, inl, inr, sym, ap, subst, ◌∙◌}
+use Rattle.std.proofs.Common.{◌≡◌, ℕ, ◌+◌, ◌<◌, ◌≤◌, Bool, true, List, length, drop, get_or, Option, inl, inr, sym, subst, ◌∙◌}
 use Rattle.std.specs.Prelude.{Contains, IsSome, is_some}
 use Rattle.std.proofs.lemmas.Bool.{cases_eq}
 use Rattle.uhura_net.specs.declared.edge.Edge.{Edge}
-use Rattle.uhura_net.specs.declared.place.TheConstants.{PLACES}
 use Rattle.uhura_net.specs.Circulation.{edges_of}
 use Rattle.uhura_search.specs.Moving.{AreListed}
 use Rattle.uhura_search.specs.Places.{ArePlaces, SetsPlace}

@@ -1,5 +1,4 @@
 use Rattle.std.proofs.Common.{length, ap, sym, subst}
-use Rattle.uhura_choice.specs.declared.prefix.Pick.{Pick}
 use Rattle.uhura_veto.specs.State.{State}
 use Rattle.uhura_search.specs.Shut.{IsShut}
 use Rattle.uhura_search.specs.Closed.{NoneBelow}

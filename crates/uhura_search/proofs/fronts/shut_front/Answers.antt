@@ -1,4 +1,4 @@
-use Rattle.std.proofs.Common.{sym, subst, ap, length, arith, ◌∙◌}
+use Rattle.std.proofs.Common.{sym, subst, ap, length, arith}
 use Rattle.std.specs.Prelude.{◌+◌, ◌/◌}
 use Rattle.uhura_choice.specs.Branch.{IsPrefix}
 use Rattle.uhura_choice.proofs.Prefixes.{branch-prefix, prefix-take}

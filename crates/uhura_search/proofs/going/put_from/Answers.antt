@@ -1,4 +1,3 @@
-use Rattle.std.proofs.Common.{arith}
 use Rattle.uhura_search.proofs.Coming.{none-put, more-put, stuck-put, all-put}
 use Rattle.uhura_search.proofs.going.put_from.Goals as goal
 

@@ -1,11 +1,10 @@
-use Rattle.std.proofs.Common.{rules, ◌≡◌, ℕ, ◌<◌, ◌≤◌, Bool, true, false, List, length, get_or, sym, ap, subst, ◌∙◌, arith}
-use Rattle.std.specs.Prelude.{if◌then◌else◌, is_ok, Result, Ok, Err}
-use Rattle.std.specs.List.{insert, remove}
+use Rattle.std.proofs.Common.{rules, ◌≡◌, ℕ, ◌<◌, Bool, true, false, List, length, ap, subst, ◌∙◌, arith}
+use Rattle.std.specs.Prelude.{if◌then◌else◌, is_ok, Ok, Err}
+use Rattle.std.specs.List.{insert}
 use Rattle.std.specs.List.Sorted.{IsBinarySearchResult}
 use Rattle.std.specs.Ordering.{nat_cmp}
 use Rattle.std.proofs.lemmas.List.Sorted.{searched}
-use Rattle.uhura_search.specs.Places.{ArePlaces, SetsPlace}
-use Rattle.uhura_search.proofs.Placing.{rises-weakly, inserted-places, inserted-room, inserted-set, passed-set, removed-places, removed-set, found-set}
+use Rattle.uhura_search.proofs.Placing.{rises-weakly, inserted-places, inserted-room, inserted-set, passed-set, removed-places, removed-set}
 use Rattle.uhura_search.proofs.places.set_in.Goals as goal
 
 pub returns-then-not-there-clause-set : goal.returns-then-not-there-clause-set

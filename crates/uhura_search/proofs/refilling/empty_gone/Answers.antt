@@ -1,4 +1,4 @@
-use Rattle.std.proofs.Common.{rules, ◌≡◌, ◌<◌, true, false, true≢false, length, get_or, sym, ◌∙◌}
+use Rattle.std.proofs.Common.{rules, ◌≡◌, true, true≢false, sym, ◌∙◌}
 use Rattle.uhura_search.proofs.Refills.{none-before, none-kept, none-emptied, none-all, lists-none, lists-both}
 use Rattle.uhura_search.proofs.refilling.empty_gone.Goals.{then-not-is_item, else-not-is_item}
 use Rattle.uhura_search.proofs.refilling.empty_gone.Goals as goal

@@ -1,4 +1,4 @@
-use Rattle.std.proofs.Common.{◌≡◌, Bool, true, false, List, length, set, refl, sym, ap, ◌∙◌, length-set}
+use Rattle.std.proofs.Common.{Bool, true, false, List, length, set, refl, sym, ap, ◌∙◌, length-set}
 use Rattle.std.specs.Prelude.{option_copied}
 use Rattle.std.proofs.lemmas.List.{length-replicate}
 use Rattle.uhura_plan.specs.declared.limits.TheConstants.{REQUIREMENTS}

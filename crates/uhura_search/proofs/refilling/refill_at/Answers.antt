@@ -1,5 +1,4 @@
-use Rattle.std.proofs.Common.{rules, ◌≡◌, ℕ, ◌<◌, set, None, get_or, sym, ap, subst, ◌∙◌, arith}
-use Rattle.uhura_net.specs.Place.{place_number}
+use Rattle.std.proofs.Common.{rules, ◌≡◌, ℕ, set, None, get_or, sym, ap, ◌∙◌, arith}
 use Rattle.uhura_search.proofs.Refills.{puts-same, puts-set, lists-set}
 use Rattle.uhura_search.proofs.refilling.refill_at.Goals as goal
 

@@ -1,4 +1,4 @@
-use Rattle.std.proofs.Common.{◌≤◌, length, sym, ap, ◌∙◌, arith}
+use Rattle.std.proofs.Common.{length, sym, ap, ◌∙◌, arith}
 use Rattle.std.specs.Prelude.{option_copied}
 use Rattle.uhura_search.specs.Refilled.{tables_without}
 use Rattle.uhura_search.proofs.Refills.{refilled-duration, refilled-all, lists-none, lists-both}

@@ -1,4 +1,4 @@
-use Rattle.std.proofs.Common.{◌≡◌, ◌≤◌, Bool, None, length, sym, ap, subst, ◌∙◌, arith}
+use Rattle.std.proofs.Common.{Bool, None, length, sym, ap, subst, ◌∙◌, arith}
 use Rattle.std.specs.Prelude.{if◌then◌else◌, option_copied}
 use Rattle.uhura_plan.specs.declared.key.Item.TheVariants as item
 use Rattle.uhura_worst.specs.Edges.{requirement_edge}

@@ -1,4 +1,4 @@
-use Rattle.std.proofs.Common.{rules, SFits, to_z, of_z, ◌≡◌, ℕ, ◌<◌, [], inl, inr, refl, sym, subst, ◌∙◌, append-nil}
+use Rattle.std.proofs.Common.{rules, SFits, to_z, of_z, ◌≡◌, ℕ, ◌<◌, inl, inr, refl, sym, subst, ◌∙◌}
 use Rattle.std.specs.Prelude.{◌^◌}
 use Rattle.std.proofs.lemmas.Int.{to_z-of_z}
 use Rattle.std.proofs.lemmas.Result.{on_ok_weaker}

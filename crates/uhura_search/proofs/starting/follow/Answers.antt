@@ -1,6 +1,4 @@
-use Rattle.std.proofs.Common.{sym, subst}
-use Rattle.uhura_choice.specs.Branch.{IsPrefix}
-use Rattle.uhura_choice.proofs.Prefixes.{branch-prefix, prefix-take}
+use Rattle.uhura_choice.proofs.Prefixes.{branch-prefix}
 use Rattle.uhura_search.proofs.starting.follow.Goals as goal
 
 pub is_shut-requires-clause-prefix : goal.is_shut-requires-clause-prefix

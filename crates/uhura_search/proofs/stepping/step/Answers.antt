@@ -1,4 +1,4 @@
-use Rattle.std.proofs.Common.{rules, SFits, to_z, of_z, ◌≡◌, ◌+◌, ◌≤◌, ◌<◌, ℕ, List, length, take, drop, sym, ap, subst, ◌∙◌, arith, take-append-drop}
+use Rattle.std.proofs.Common.{rules, SFits, to_z, of_z, ◌≡◌, ◌+◌, ◌≤◌, List, length, ap, subst, ◌∙◌, arith}
 use Rattle.std.proofs.lemmas.Int.{to_z-of_z}
 use Rattle.std.proofs.lemmas.List.{take_all}
 use Rattle.std.specs.Int.{w128}
@@ -7,7 +7,6 @@ use Rattle.uhura_net.specs.Net.{net_value}
 use Rattle.uhura_search.specs.Moving.{HasMoved, active_edges}
 use Rattle.uhura_search.specs.Shut.{IsDear}
 use Rattle.uhura_search.proofs.Fronting.{front-taken, stuck-front, stuck-later, moved-among, next-taken, moved-both}
-use Rattle.uhura_search.proofs.Putting.{unsettled-both}
 use Rattle.uhura_search.proofs.stepping.step.Goals as goal
 
 pub returns-in-Stuck : goal.returns-in-Stuck
