@@ -1,17 +1,22 @@
-//! Sessions and their counts: a question that is asked again settles nothing, and each other one settles as often as
-//! it adds a conflict, or once more.
+//! Sessions and their counts: a question that is asked again settles and pushes nothing, and each other one settles as
+//! often as it adds a conflict, or once more.
 use std::alloc::{AllocError, Global};
 use uhura_session::Session;
 
-/// A drive that may take longer than dinner can wait.
-const DRIVE: [&str; 3] = [
+/// A drive that may take longer than dinner can wait, asked about; and then a later dinner.
+const DRIVE: [&str; 5] = [
     "event home",
     "uncertain drive home arrive 30 50 upper 3",
     "require dinner home arrive - 40 upper 2",
+    "propose",
+    "bound dinner upper 45",
 ];
 
-/// An evening with a dinner and a film.
-const EVENING: [&str; 37] = [
+/// What is proposed for the later dinner.
+const LATER: &str = "proposal 10\nloosen dinner upper 5\nat home 0\nend\n";
+
+/// An evening with a dinner and a film, asked about as it is planned.
+const EVENING: [&str; 38] = [
     "event start",
     "event ready",
     "event leave",
@@ -49,72 +54,58 @@ const EVENING: [&str; 37] = [
     "require wait_i leave seated - 60 upper 1 when restaurant indian",
     "require wait_t leave seated - 60 upper 1 when restaurant thai",
     "require curfew start goodnight - 400",
+    "propose",
 ];
 
-/// Answers the lines.
-fn answer(session: &mut Session, lines: &[&str]) -> Result<(), AllocError> {
+/// Vetoes of what was proposed for the evening, each with the question that follows.
+const VETOES: [&str; 8] = [
+    "deny no_thai restaurant thai",
+    "propose",
+    "cap home_cap require home upper 4",
+    "propose",
+    "deny no_late showing late",
+    "propose",
+    "withdraw no_thai",
+    "propose",
+];
+
+/// Gives a line, and says whether the answer is this text.
+fn is_answered(session: &mut Session, line: &str, text: &str) -> Result<bool, AllocError> {
+    Ok(session.line(line.as_bytes())?.text == text.as_bytes())
+}
+
+/// Gives lines, and says whether at each the settles rose by as much as the conflicts that were added, or by one more.
+fn settles_as_it_adds(session: &mut Session, lines: &[&str]) -> Result<bool, AllocError> {
+    let mut always = true;
     for line in lines {
-        let _answer = session.line(line.as_bytes())?;
+        let (settles, added) = (session.settles(), session.added());
+        let _is_empty = is_answered(session, line, "")?;
+        let settles = session.settles().saturating_sub(settles);
+        let added = session.added().saturating_sub(added);
+        always = always && added <= settles && settles - added <= 1;
     }
-    Ok(())
+    Ok(always)
 }
 
-/// Asks, and says whether the answer is this text.
-fn is_answered(session: &mut Session, text: &str) -> Result<bool, AllocError> {
-    Ok(session.line(b"propose")?.text == text.as_bytes())
+/// Asks about a later dinner twice, and says whether both answers are right and the second one settled and pushed
+/// nothing.
+fn asks_again(session: &mut Session) -> Result<bool, AllocError> {
+    let is_settled = settles_as_it_adds(session, &DRIVE)?;
+    let first = is_answered(session, "propose", LATER)?;
+    let (settles, pushes) = (session.settles(), session.pushes());
+    let second = is_answered(session, "propose", LATER)?;
+    let is_same = (settles, pushes) == (session.settles(), session.pushes());
+    Ok(is_settled && first && second && is_same)
 }
 
-/// Asks, and says by how much the conflicts that were added rose, and the settles.
-fn rises(session: &mut Session) -> Result<(u64, u64), AllocError> {
-    let (added, settles) = (session.added(), session.settles());
-    let _answer = session.line(b"propose")?;
-    Ok((
-        session.added().saturating_sub(added),
-        session.settles().saturating_sub(settles),
-    ))
-}
-
-/// Asks about the drive, and about a later dinner twice: says whether the answers are right, and whether the second
-/// of two equal questions settled and pushed nothing.
-fn asks_about_the_drive(session: &mut Session) -> Result<bool, AllocError> {
-    answer(session, &DRIVE)?;
-    let first = is_answered(
-        session,
-        "proposal 20\nloosen dinner upper 10\nat home 0\nend\n",
-    )?;
-    answer(session, &["bound dinner upper 45"])?;
-    let later = "proposal 10\nloosen dinner upper 5\nat home 0\nend\n";
-    let second = is_answered(session, later)?;
-    let counts = (session.settles(), session.pushes(), session.added());
-    let third = is_answered(session, later)?;
-    let same = counts == (session.settles(), session.pushes(), session.added());
-    Ok(first && second && third && same)
-}
-
-/// Asks after an edit, and says whether it settled as often as it added a conflict, or once more.
-fn settles_as_it_adds(session: &mut Session, edit: &str) -> Result<bool, AllocError> {
-    answer(session, &[edit])?;
-    let (added, settles) = rises(session)?;
-    Ok(settles >= added && settles - added <= 1)
-}
-
-/// Asks about the evening as it is planned and after each of these vetoes, and says whether each question settled so.
+/// Asks about the evening as it is planned, and after each veto.
 fn asks_about_the_evening(session: &mut Session) -> Result<bool, AllocError> {
-    answer(session, &EVENING)?;
-    let mut all = settles_as_it_adds(session, "# as planned")? && session.added() > 0;
-    for edit in [
-        "deny no_thai restaurant thai",
-        "cap home_cap require home upper 4",
-        "deny no_late showing late",
-        "withdraw no_thai",
-    ] {
-        all = settles_as_it_adds(session, edit)? && all;
-    }
-    Ok(all)
+    let is_planned = settles_as_it_adds(session, &EVENING)? && session.added() > 0;
+    Ok(settles_as_it_adds(session, &VETOES)? && is_planned)
 }
 
-fn asked_about_the_drive(alloc: Global) -> Result<bool, AllocError> {
-    asks_about_the_drive(&mut Session::new(alloc)?)
+fn asked_again(alloc: Global) -> Result<bool, AllocError> {
+    asks_again(&mut Session::new(alloc)?)
 }
 
 fn asked_about_the_evening(alloc: Global) -> Result<bool, AllocError> {
@@ -123,7 +114,7 @@ fn asked_about_the_evening(alloc: Global) -> Result<bool, AllocError> {
 
 #[test]
 fn a_question_that_is_asked_again_settles_nothing(rt: HostRuntime) -> Result<(), AllocError> {
-    assert!(rt; asked_about_the_drive(rt.alloc())?);
+    assert!(rt; asked_again(rt.alloc())?);
     Ok(())
 }
 
