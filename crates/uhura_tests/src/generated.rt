@@ -8,7 +8,8 @@ use uhura_plan::Rate;
 fn draws_the_plan_of_number_1(rt: HostRuntime) -> Result<(), AllocError> {
     let plan = plan_of(rt.alloc(), 1, 64)?;
     let first = plan.uncertain(0).expect(&rt, "a duration");
-    assert!(rt; first.name.bytes() == b"u0" && first.end.bytes() == b"f0");
+    assert_eq!(rt; first.name.bytes(), b"u0".as_slice());
+    assert_eq!(rt; first.end.bytes(), b"f0".as_slice());
     assert_eq!(rt; (first.start, first.lower, first.upper), (0, 11, 25));
     let rate = |first| Some(Rate {
         first,
