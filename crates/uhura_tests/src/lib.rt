@@ -1,4 +1,4 @@
-//! What no script shows and a value by hand does: the counts of sessions, edits of one flow, and a plan from a number.
+//! What no script shows of the libraries and a value by hand does: edits of one flow, and a plan from a number.
 //!
 //! The calls that take memory are made by the scripts of `tests/cases`. The tests of all libraries stand in this one
 //! crate, since a crate with tests is proved twice.
@@ -10,5 +10,3 @@ mod edges;
 mod edits;
 #[cfg(test)]
 mod generated;
-#[cfg(test)]
-mod sessions;
