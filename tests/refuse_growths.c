@@ -1,8 +1,8 @@
-/* Refuses growths of memory of the program that it is loaded into by LD_PRELOAD, and counts them: each call of malloc,
-   calloc and realloc from the program's start on is one.
+/* Refuses growths of memory of the program that it is loaded into by LD_PRELOAD, and counts them: each call of
+   malloc, calloc and realloc from the program's start on is one.
 
-   REFUSED is the number of the growth that is refused, from 1, and LATER=1 refuses each later one, too. At the end the
-   count is written into the file that COUNTED names. */
+   REFUSED is the number of the growth that is refused, from 1, and LATER=1 refuses each later one, too. At the end
+   the count is written into the file that COUNTED names. */
 #define _GNU_SOURCE
 #include <dlfcn.h>
 #include <errno.h>
