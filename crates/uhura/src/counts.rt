@@ -94,7 +94,7 @@ fn asks_again(session: &mut Session) -> Result<bool, AllocError> {
     let first = is_answered(session, "propose", LATER)?;
     let (settles, pushes) = (session.settles(), session.pushes());
     let second = is_answered(session, "propose", LATER)?;
-    let is_same = (settles, pushes) == (session.settles(), session.pushes());
+    let is_same = session.settles() == settles && session.pushes() == pushes;
     Ok(is_settled && first && second && is_same)
 }
 
