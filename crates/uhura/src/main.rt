@@ -4,6 +4,8 @@
 
 mod arguments;
 mod bytes;
+#[cfg(test)]
+mod counts;
 mod document;
 mod measure;
 mod outbox;

@@ -1,7 +1,7 @@
 //! Whole runs over streams in memory: the words, and what a run leaves where a read or a write fails.
 use crate::run::run;
 use std::alloc::{AllocError, Global};
-use uhura_io::{MemorySink, MemorySource, SteadySink, SteadySource};
+use uhura_io::{MemorySink, MemorySource, Sink, Source, SteadySink, SteadySource};
 
 const EVENT_AND_QUESTIONS: &[u8] = b"event a\npropose\nprove\n";
 
@@ -35,42 +35,47 @@ fn ends_by(
     write: u64,
     written: &[u8],
 ) -> Result<(u8, bool), AllocError> {
-    let words = word_list(alloc, words)?;
     let mut source = MemorySource::new(alloc, script, piece.max(1), &[read])?;
     let mut sink = MemorySink::new(alloc, 128, piece.max(1), &[write])?;
-    let status = run(alloc, &words, &mut source, &mut sink);
-    Ok((status as u8, sink.bytes() == written))
+    let status = status_by(alloc, words, &mut source, &mut sink)?;
+    Ok((status, sink.bytes() == written))
 }
 
-/// These words.
-fn word_list(alloc: Global, words: &[&str]) -> Result<Vec<String>, AllocError> {
+/// The status of a run with these words.
+fn status_by<S: Source, K: Sink>(
+    alloc: Global,
+    words: &[&str],
+    source: &mut S,
+    sink: &mut K,
+) -> Result<u8, AllocError> {
     let mut list = Vec::new(alloc);
     for word in words {
         list.push(String::from_str(alloc, word)?)?;
     }
-    Ok(list)
+    Ok(run(alloc, &list, source, sink) as u8)
 }
 
 /// The status of a run with these words over steady streams.
 fn status(alloc: Global, words: &[&str], script: &[u8]) -> Result<u8, AllocError> {
-    let words = word_list(alloc, words)?;
     let mut source = SteadySource::new(alloc, script)?;
-    let status = run(alloc, &words, &mut source, &mut SteadySink::new());
-    Ok(status as u8)
+    status_by(alloc, words, &mut source, &mut SteadySink::new())
 }
 
 #[test]
 fn the_words_are_those_listed(rt: HostRuntime) -> Result<(), AllocError> {
-    let alloc = rt.alloc();
-    assert_eq!(rt; status(alloc, &[], b"")?, 0);
-    assert_eq!(rt; status(alloc, &["run"], EVENT_AND_QUESTIONS)?, 0);
-    assert_eq!(rt; status(alloc, &["check"], DOCUMENT)?, 0);
-    assert_eq!(rt; status(alloc, &["check"], b"")?, 1);
-    assert_eq!(rt; status(alloc, &["measure", "1"], b"")?, 0);
-    assert_eq!(rt; status(alloc, &["measure", "0"], b"")?, 2);
-    assert_eq!(rt; status(alloc, &["run"], b"event a\njump")?, 1);
-    assert_eq!(rt; status(alloc, &["ran"], b"")?, 2);
-    assert_eq!(rt; status(alloc, &["run", "run"], b"")?, 2);
+    for (words, script, owed) in [
+        ([].as_slice(), b"".as_slice(), 0),
+        (&["run"], EVENT_AND_QUESTIONS, 0),
+        (&["check"], DOCUMENT, 0),
+        (&["check"], b"", 1),
+        (&["measure", "1"], b"", 0),
+        (&["measure", "0"], b"", 2),
+        (&["run"], b"event a\njump", 1),
+        (&["ran"], b"", 2),
+        (&["run", "run"], b"", 2),
+    ] {
+        assert_eq!(rt; status(rt.alloc(), words, script)?, owed, "by {words:?}");
+    }
     Ok(())
 }
 

@@ -1,5 +1,5 @@
 //! A question.
-ghost use Rattle.std.specs.Prelude.{◌≡◌, Some, IfOk, OnOk};
+ghost use Rattle.std.specs.Prelude.{◌≡◌, Some, IfOk};
 ghost use Rattle.uhura_veto.specs.State.{State};
 ghost use Rattle.uhura_shows.specs.Shows.{Shows};
 ghost use Rattle.uhura_search.specs.Answer.{IsAnswerTo, shown_leaves};

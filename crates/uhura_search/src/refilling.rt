@@ -1,9 +1,8 @@
 //! The table of a plan that changed, filled anew by its items.
-ghost use Rattle.std.specs.Prelude.{◌≡◌, ◌<◌, IsTrue, IsFalse, None, IfSome, if◌then◌else◌, false, length, replicate};
+ghost use Rattle.std.specs.Prelude.{◌≡◌, ◌<◌, IsFalse, None, IfSome, if◌then◌else◌, false, length, replicate};
 ghost use Rattle.uhura_plan.specs.declared.key.Item.TheVariants as item;
 ghost use Rattle.uhura_plan.specs.declared.limits.TheConstants.{EVENTS, REQUIREMENTS};
 ghost use Rattle.uhura_plan.specs.Sound.{IsSoundUncertain};
-ghost use Rattle.uhura_net.specs.declared.place.TheConstants.{PLACES};
 ghost use Rattle.uhura_net.specs.Place.{IsPlacedItem, HasPlace, place_number};
 ghost use Rattle.uhura_net.specs.Table.{IsEdgeFor};
 ghost use Rattle.uhura_worst.specs.Edges.{item_of, duration_edge, requirement_edge};

@@ -8,7 +8,7 @@ ghost use Rattle.uhura_worst.specs.Edges.{tables_under};
 ghost use Rattle.uhura_worst.specs.Filled.{IsFilledBy};
 ghost use Rattle.uhura_search.specs.Guards.{HaveGuardsOf, AllAskForGuards};
 ghost use Rattle.uhura_search.specs.Learning.{IsLearningFor};
-ghost use Rattle.uhura_search.specs.Moving.{AreAmong, AreListed, HasAll, IsTakenOut, IsUnsettled};
+ghost use Rattle.uhura_search.specs.Moving.{AreListed, HasAll, IsTakenOut, IsUnsettled};
 ghost use Rattle.uhura_search.specs.Refilled.{tables_without, IsNoneMarked};
 ghost use Rattle.uhura_search.specs.Revised.{IsRevisedStore};
 ghost use Rattle.uhura_search.specs.Taken.{IsOverTable, TakesTable};
