@@ -1,6 +1,6 @@
 -- Whether an entry that is looked for applies.
-use Rattle.std.proofs.Common.{◌≡◌, ◌⊎◌, ℕ, ◌+◌, ◌<◌, ◌≤◌, ℤ, Bool, true, false, ◌||◌, List, length, Option, Some, None, inl, inr, ap, sym, subst, refl, ◌∙◌, arith}
-use Rattle.std.specs.Prelude.{IsTrue, IsFalse, IfSome, int_le, ◌≤ℤ◌, MatchBool}
+use Rattle.std.proofs.Common.{◌≡◌, ◌⊎◌, ℕ, ◌+◌, ◌≤◌, ℤ, Bool, true, false, List, length, Option, Some, None, inl, inr, ap, sym, subst, refl, ◌∙◌, arith}
+use Rattle.std.specs.Prelude.{IsTrue, IsFalse, IfSome, int_le, MatchBool}
 use Rattle.std.proofs.lemmas.Int.{ints}
 use Rattle.std.proofs.lemmas.Bool.{cases_Bool, cases_eq, cases_lt}
 use Rattle.std.proofs.lemmas.List.{get_or_past}
@@ -11,15 +11,11 @@ use Rattle.uhura_conflict.specs.declared.entry.Entry.{Entry}
 use Rattle.uhura_conflict.specs.declared.sought.Sought.{Sought}
 use Rattle.uhura_conflict.specs.Learned.{Learned}
 use Rattle.uhura_conflict.specs.Literals.{Applies}
-use Rattle.uhura_conflict.specs.Store.{AppliesAt, value_at, IsReachedBy, Reaches}
+use Rattle.uhura_conflict.specs.Store.{value_at, IsReachedBy, Reaches}
 use Rattle.uhura_conflict.specs.Entries.{conflict_of, shown_as, IsWorth, AreWorth, is_sought_by, is_sought, reaching, IsFound, NoneBetween}
 use Rattle.uhura_conflict.proofs.Greatest.{shown_at, true_false, least_z, more_z}
 
 module _ (entries : Slab Entry) (picks : List Pick) (sought : Sought) where
-  -- between a key and itself
-  pub none-between : (from : ℕ) → NoneBetween entries picks sought from from
-  none-between from = λ key least less. absurd (omega arith)
-
   -- one key more
   pub none-next : (from n : ℕ) (found : Option Entry) → get entries n ≡ found → IfSome found (λ (entry : Entry). Applies picks entry.conflict → IsFalse (is_sought sought entry)) →
       NoneBetween entries picks sought from n → NoneBetween entries picks sought from (n + 1)

@@ -1,5 +1,5 @@
 -- What summaries say of entries, as entries come, go and change.
-use Rattle.std.proofs.Common.{◌≡◌, ◌≢◌, ◌⊎◌, ℕ, ◌+◌, ◌*◌, ◌/◌, ◌<◌, ◌≤◌, ℤ, ◌≤ℤ◌, ◌<ℤ◌, Bool, true, false, ◌||◌, List, [], ◌∷◌, ◌++◌, length, get_or, Option, Some, None, inl, inr, ap, sym, subst, refl, ◌∙◌, arith}
+use Rattle.std.proofs.Common.{◌≡◌, ◌⊎◌, ℕ, ◌+◌, ◌*◌, ◌/◌, ◌<◌, ◌≤◌, ℤ, ◌≤ℤ◌, ◌<ℤ◌, Bool, true, false, ◌||◌, List, [], ◌∷◌, ◌++◌, length, get_or, Option, Some, None, inl, inr, ap, sym, subst, refl, ◌∙◌, arith}
 use Rattle.std.specs.Prelude.{IsTrue, IsFalse, IsSome, IfSome, is_some, int_lt, int_le, option_and_then}
 use Rattle.std.proofs.lemmas.Int.{ints}
 use Rattle.std.proofs.lemmas.Bool.{cases_Bool, cases_eq, cases_lt}
@@ -14,11 +14,10 @@ use Rattle.uhura_conflict.specs.declared.entry.Entry.{Entry}
 use Rattle.uhura_conflict.specs.declared.summary.Summary.{Summary}
 use Rattle.uhura_conflict.specs.declared.summaries.Summaries.{Summaries}
 use Rattle.uhura_conflict.specs.declared.summaries.TheConstants.{BLOCK, GROUP}
-use Rattle.uhura_conflict.specs.Learned.{Learned}
 use Rattle.uhura_conflict.specs.Literals.{AreAllPicked, Applies}
 use Rattle.uhura_conflict.specs.Store.{if_it_outlasts}
 use Rattle.uhura_conflict.specs.Entries.{conflict_of, is_sought_by, is_sought, beyond, NoneBetween, RevisesAt, IsBestBelow}
-use Rattle.uhura_conflict.specs.Summaries.{Covers, IsCoveredBy, AreCovered, AreSummed, IsInRange, IsReached, CannotMatter}
+use Rattle.uhura_conflict.specs.Summaries.{IsCoveredBy, AreCovered, AreSummed, IsInRange, IsReached, CannotMatter}
 use Rattle.uhura_conflict.proofs.Greatest.{true_false, lt_z, le_z, least_z, more_z, best-passed_over}
 
 not_least : (a b : ℤ) → b <ℤ a → int_le a b ≡ false

@@ -1,5 +1,5 @@
 -- What the entries of a block of keys have in common.
-use Rattle.std.specs.Prelude.{ℕ, ◌/◌, ◌<◌, ◌≤ℤ◌, IsTrue, IsFalse, IsSome, IfSome, List, length, Option, None, Some, slice_index_or}
+use Rattle.std.specs.Prelude.{ℕ, ◌/◌, ◌<◌, ◌≤ℤ◌, IsTrue, IsFalse, IfSome, List, length, Option, None, Some, slice_index_or}
 use Rattle.slab.specs.Slab.{Slab, get, Updates}
 use Rattle.uhura_plan.specs.declared.guard.Literal.{Literal}
 use Rattle.uhura_choice.specs.declared.prefix.Pick.{Pick}

@@ -1,6 +1,6 @@
 -- When a value is enough: by how the prefix stands to the best branch.
 use Rattle.std.proofs.Common.{◌≡◌, List, Option, Some, None, [], ◌∷◌, length, ◌++◌, inl, inr, sym, ap, ◌∙◌, subst, arith, append-nil, length-append}
-use Rattle.std.specs.Prelude.{ℤ, pos, ◌+ℤ◌, ◌≤ℤ◌, ◌<ℤ◌, ◌⊎◌, ◌↔◌, Bool, true, false, int_lt, int_le, nat_eq}
+use Rattle.std.specs.Prelude.{ℤ, pos, ◌+ℤ◌, ◌≤ℤ◌, ◌<ℤ◌, ◌⊎◌, ◌↔◌, Bool, true, false, int_lt, nat_eq}
 use Rattle.std.specs.Bool.{MatchBool}
 use Rattle.std.specs.Int.{w128}
 use Rattle.std.proofs.Common.{to_z, of_z, SFits}
@@ -118,16 +118,6 @@ lt-true a b is = by_lt_z {P = a <ℤ b} a b (λ less. less) (λ least. grind (ar
 pub lt-false : (a b : ℤ) → int_lt a b ≡ false → b ≤ℤ a
 lt-false a b is = by_lt_z {P = b ≤ℤ a} a b (λ less. grind (arith, ints, nat_tests)) (λ least. least)
 
-le-true : (a b : ℤ) → int_le a b ≡ true → a ≤ℤ b
-le-true a b is = by_lt_z {P = a ≤ℤ b} b a (λ less. grind (arith, ints, nat_tests)) (λ least. least)
-
-le-false : (a b : ℤ) → int_le a b ≡ false → b <ℤ a
-le-false a b is = by_lt_z {P = b <ℤ a} b a (λ less. less) (λ least. grind (arith, ints, nat_tests))
-
-pub match-le : (test : Bool) (a b : ℤ) (P : Type 0) → test ≡ int_le a b → (a ≤ℤ b → P) → (b <ℤ a → P → ⊥) → MatchBool test P (P → ⊥)
-match-le true a b P is holds fails = holds (le-true a b (sym is))
-match-le false a b P is holds fails = fails (le-false a b (sym is))
-
 -- lists of which a test says that they aren't as long aren't
 pub not-as_long : (one other : List Pick) → nat_eq (length one) (length other) ≡ false → length one ≡ length other → ⊥
 not-as_long one other differ same = grind (arith, nat_tests)
@@ -139,7 +129,3 @@ as-long one other same = grind (arith, nat_tests)
 pub tested-lt : (test : Bool) (given a b : ℤ) → SFits w128 given → SFits w128 b → given ≡ a → test ≡ int_lt (to_z w128 (of_z w128 given)) (to_z w128 (of_z w128 b)) → test ≡ int_lt a b
 tested-lt test given a b fits other same is =
     is ∙ (ap (λ n. int_lt n (to_z w128 (of_z w128 b))) (to_z-of_z w128 given fits ∙ same) ∙ ap (λ n. int_lt a n) (to_z-of_z w128 b other))
-
-pub tested-le : (test : Bool) (given a b : ℤ) → SFits w128 given → SFits w128 b → given ≡ a → test ≡ int_le (to_z w128 (of_z w128 given)) (to_z w128 (of_z w128 b)) → test ≡ int_le a b
-tested-le test given a b fits other same is =
-    is ∙ (ap (λ n. int_le n (to_z w128 (of_z w128 b))) (to_z-of_z w128 given fits ∙ same) ∙ ap (λ n. int_le a n) (to_z-of_z w128 b other))

@@ -1,4 +1,4 @@
-use Rattle.std.proofs.Common.{◌≡◌, ◌+◌, ◌*◌, ◌/◌, ◌<◌, ◌≤◌, ℕ, List, Option, length, subst, sym, arith}
+use Rattle.std.proofs.Common.{◌≡◌, ◌+◌, ◌*◌, ◌≤◌, List, Option, length, subst, sym, arith}
 use Rattle.uhura_conflict.specs.declared.summary.Summary.{Summary}
 use Rattle.uhura_conflict.specs.declared.summaries.TheConstants.{GROUP}
 use Rattle.uhura_conflict.specs.Entries.{NoneBetween}

@@ -1,4 +1,4 @@
-use Rattle.std.proofs.Common.{◌≡◌, ◌+◌, ◌*◌, ◌/◌, ◌<◌, ◌≤◌, ℕ, subst, sym, arith}
+use Rattle.std.proofs.Common.{◌≡◌, ◌+◌, ◌*◌, subst, arith}
 use Rattle.uhura_conflict.specs.declared.summaries.TheConstants.{BLOCK, BLOCKS, GROUP}
 use Rattle.uhura_conflict.specs.Entries.{NoneBetween}
 use Rattle.uhura_conflict.proofs.Reaching.{none-joined}

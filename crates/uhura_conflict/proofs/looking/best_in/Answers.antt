@@ -1,4 +1,4 @@
-use Rattle.std.proofs.Common.{◌≡◌, ◌+◌, ◌*◌, ◌/◌, ◌<◌, ◌≤◌, ℕ, List, Option, None, get_or, length, subst, sym, arith}
+use Rattle.std.proofs.Common.{◌≡◌, ◌+◌, ◌*◌, ◌≤◌, List, Option, None, get_or, length, subst, sym, arith}
 use Rattle.uhura_conflict.specs.declared.bound.Bound.{Bound}
 use Rattle.uhura_conflict.specs.declared.sought.Sought.{Sought}
 use Rattle.uhura_conflict.specs.declared.summary.Summary.{Summary}

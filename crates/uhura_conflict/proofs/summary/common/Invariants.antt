@@ -1,4 +1,3 @@
-use Rattle.std.proofs.Common.{◌≡◌, length}
 use Rattle.uhura_plan.specs.declared.guard.Literal.{Literal}
 use Rattle.uhura_conflict.specs.Literals.{Asks}
 use Rattle.uhura_conflict.proofs.summary.common.Given as goal

@@ -1,9 +1,9 @@
-use Rattle.std.proofs.Common.{List, Option, ℤ, subst}
+use Rattle.std.proofs.Common.{List, subst}
 use Rattle.std.specs.Bool.{MatchBool}
 use Rattle.uhura_choice.specs.declared.prefix.Pick.{Pick}
 use Rattle.uhura_conflict.specs.declared.sought.Sought.{Sought}
 use Rattle.uhura_conflict.specs.Store.{Stored, Reaches}
-use Rattle.uhura_conflict.specs.Entries.{shown_as, reaching, IsFound}
+use Rattle.uhura_conflict.specs.Entries.{reaching, IsFound}
 use Rattle.uhura_conflict.proofs.Reaching.{found-matches}
 use Rattle.uhura_conflict.proofs.store.Store.reaches.Goals as goal
 
