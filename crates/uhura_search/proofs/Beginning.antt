@@ -1,20 +1,16 @@
 -- A store without a conflict, over whatever table.
-use Rattle.std.proofs.Common.{◌≡◌, ℕ, ◌<◌, true, true≢false, List, [], get_or, replicate, Option, Some, None, inl, inr, refl, sym, ap, subst, ◌∙◌}
-use Rattle.std.specs.Prelude.{Contains, IsSome, IfSome, is_some, option_and_then, filter}
-use Rattle.uhura_plan.specs.declared.guard.Literal.{Literal}
+use Rattle.std.proofs.Common.{◌≡◌, ℕ, List, get_or, replicate, Option, Some, None, refl, sym, ap, subst, ◌∙◌}
+use Rattle.std.specs.Prelude.{IfSome, is_some, option_and_then, filter}
 use Rattle.uhura_net.specs.declared.edge.Edge.{Edge}
 use Rattle.uhura_net.specs.declared.place.TheConstants.{PLACES}
 use Rattle.uhura_net.specs.Circulation.{edges_of}
 use Rattle.uhura_net.specs.Edges.{Edges}
-use Rattle.uhura_flow.specs.Flow.{FlowState, flow_edges}
 use Rattle.uhura_veto.specs.State.{State}
 use Rattle.uhura_worst.specs.Filled.{IsTableOf}
-use Rattle.uhura_choice.specs.declared.prefix.Pick.{Pick}
 use Rattle.uhura_conflict.specs.Learned.{Learned, places_in}
 use Rattle.uhura_conflict.specs.Literals.{AreLiteralsOf}
 use Rattle.uhura_conflict.specs.Marked.{DifferAmong}
 use Rattle.uhura_conflict.specs.Store.{Stored, conflict_at, IsStore, empty_store, Revises, if_it_outlasts}
-use Rattle.uhura_search.specs.Guards.{AllAskForGuards, AsksForGuards}
 use Rattle.uhura_search.specs.Known.{IsStoreFor}
 use Rattle.uhura_search.specs.Moving.{AreAmong, AreListed}
 use Rattle.uhura_search.specs.Searcher.{KeepsNothing}
@@ -46,13 +42,10 @@ module _ (old new : Stored) (table : List (Option Edge)) (empty : old ≡ empty_
     order = revises.order ∙ ap (λ (s : Stored). filter (λ (key : ℕ). is_some (conflict_at new key)) s.order) empty;
   }
 
--- so the store is one for any state of the table, and asks for whatever guards
+-- so the store is one for any state of its table
 pub nothing-for : (state : State) (store : Stored) → IsTableOf state store.table → IsStore store → KeepsNothing store → IsStoreFor state store
 nothing-for state store is_table sound nothing = record {
   table = is_table;
   sound = sound;
   literals = λ key. subst (λ (o : Option Learned). IfSome o (λ (c : Learned). AreLiteralsOf state.plan (places_in c.pairs) c.literals)) (sym (nothing.none key)) tt;
 }
-
-pub nothing-asks : (store : Stored) (guards : List (List Literal)) → KeepsNothing store → AllAskForGuards guards store
-nothing-asks store guards nothing key = subst (λ (o : Option Learned). IfSome o (AsksForGuards guards)) (sym (nothing.none key)) tt
