@@ -64,7 +64,7 @@ pub(crate) fn take_first(
     ensures guards { HaveGuardsOf guards.new plan.now.requirements }
     ensures literals { AllAskForGuards guards.new learning.new.store }
     ensures store { KeepsNothing learning.new.store }
-    ensures flow { learning.new.flow ≡ learning.old.flow }
+    ensures flow { IsUnsettled learning.old.flow learning.new.flow }
     ensures added { learning.new.added ≡ learning.old.added }
 {
     let mut marks = [false; REQUIREMENTS as usize];
