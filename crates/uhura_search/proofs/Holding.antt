@@ -39,14 +39,14 @@ abbrev made : FlowState → Stored → ℕ → List (List Literal) → Searched
 made f s n g = record { net = f.net; settles = f.settles; added = n; store = s; guards = g; answer = None; stands = false; filled = false }
 
 -- nothing is in it
-nothing-at : (places place : ℕ) → get_or (replicate {A = Option Edge} places None) place None ≡ None
+pub nothing-at : (places place : ℕ) → get_or (replicate {A = Option Edge} places None) place None ≡ None
 nothing-at places place =
     elim (cases_lt place places) [
       | inl inside ↦ get_or-replicate places place None None inside
       | inr past ↦ get_or-eq_default (replicate {A = Option Edge} places None) None (omega (arith, past, length-replicate {A = Option Edge} places None))
     ]
 
-no-edge : (table : List (Option Edge)) (place : ℕ) (edge : Edge) → table ≡ replicate PLACES None → edges_of table place ≡ Some edge → ⊥
+pub no-edge : (table : List (Option Edge)) (place : ℕ) (edge : Edge) → table ≡ replicate PLACES None → edges_of table place ≡ Some edge → ⊥
 no-edge table place edge empty is =
     let nothing : edges_of table place ≡ None = ap (λ (t : List (Option Edge)). get_or t place None) empty ∙ nothing-at PLACES place in
     let never : Some edge ≡ None = sym is ∙ nothing in

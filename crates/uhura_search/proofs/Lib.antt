@@ -1,6 +1,7 @@
 pub mod Active
 pub mod Answering
 pub mod Appending
+pub mod Beginning
 pub mod Bettering
 pub mod Bounding
 pub mod Coming
@@ -15,6 +16,7 @@ pub mod Holding
 pub mod Lasting
 pub mod Learns
 pub mod Leaving
+pub mod Listing
 pub mod Marking
 pub mod Placing
 pub mod Prefixed

@@ -2,11 +2,12 @@
 ghost use Rattle.std.specs.Prelude.{◌≡◌, ◌<◌, ◌≤◌, [], IfOk};
 ghost use Rattle.std.specs.Vec.{vec_capacity};
 ghost use Rattle.uhura_net.specs.declared.place.TheConstants.{PLACES};
+ghost use Rattle.uhura_search.specs.Moving.{AreListed};
 ghost use Rattle.uhura_search.specs.Places.{ArePlaces, SetsPlace};
 
 use std::alloc::{AllocError, Global};
 use std::marker::Model;
-use uhura_net::{PLACES, Place};
+use uhura_net::{EdgeTable, PLACES, Place};
 
 /// Some of the places, each once, by rising numbers. There is room for all of them, so that only `new` takes memory.
 #[derive(Drop)]
@@ -55,12 +56,33 @@ impl Places {
         self.listed.clear();
     }
 
+    /// Lists the places that have an edge in the table, in one pass over all of them.
+    pub(crate) fn list(&mut self, table: &EdgeTable)
+        ensures { AreListed self.new table.now }
+    {
+        list_in(&mut self.listed, table);
+    }
+
     /// Lists a place, or lists it no more.
     pub(crate) fn set(&mut self, place: Place, there: bool)
         requires { place.0 < PLACES }
         ensures { SetsPlace self.old self.new place.0 there }
     {
         set_in(&mut self.listed, place.0, there);
+    }
+}
+
+/// Lists the places that have an edge in the table, each behind those before it.
+fn list_in(listed: &mut Vec<u32>, table: &EdgeTable)
+    requires room { PLACES ≤ vec_capacity listed.old }
+    ensures listed { AreListed listed.new.items table.now }
+    ensures room { PLACES ≤ vec_capacity listed.new }
+{
+    listed.clear();
+    for number in 0..PLACES as u32 {
+        if table.get(Place(number)).is_some() {
+            listed.push_reserved(number);
+        }
     }
 }
 

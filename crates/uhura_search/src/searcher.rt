@@ -12,7 +12,7 @@ use crate::Outcome;
 use crate::ask::ask;
 use crate::keeping::share;
 use crate::learning::Learning;
-use crate::taking::take_over;
+use crate::taking::{take_first, take_over};
 use std::alloc::{AllocError, Global};
 use std::marker::Model;
 use uhura_plan::{Guard, Plan, REQUIREMENTS};
@@ -141,7 +141,7 @@ impl Searcher {
         ensures filled { IsFilledFor self.new (record { plan = plan.now; vetoes = vetoes.now }) }
         ensures begun { HasBegun self.old self.new }
     {
-        take_over(&mut self.learning, &mut self.guards, plan, vetoes);
+        take_first(&mut self.learning, &mut self.guards, plan, vetoes);
         self.filled = true;
     }
 

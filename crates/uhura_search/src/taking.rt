@@ -6,11 +6,13 @@ ghost use Rattle.uhura_net.specs.declared.place.TheConstants.{PLACES};
 ghost use Rattle.uhura_net.specs.Circulation.{edges_of};
 ghost use Rattle.uhura_worst.specs.Edges.{tables_under};
 ghost use Rattle.uhura_worst.specs.Filled.{IsFilledBy};
+ghost use Rattle.uhura_conflict.specs.Store.{empty_store};
 ghost use Rattle.uhura_search.specs.Guards.{HaveGuardsOf, AllAskForGuards};
 ghost use Rattle.uhura_search.specs.Learning.{IsLearningFor};
 ghost use Rattle.uhura_search.specs.Moving.{AreListed, HasAll, IsTakenOut, IsUnsettled};
 ghost use Rattle.uhura_search.specs.Refilled.{tables_without, IsNoneMarked};
 ghost use Rattle.uhura_search.specs.Revised.{IsRevisedStore};
+ghost use Rattle.uhura_search.specs.Searcher.{KeepsNothing};
 ghost use Rattle.uhura_search.specs.Taken.{IsOverTable, TakesTable};
 
 use crate::guards::reguard;
@@ -22,6 +24,7 @@ use uhura_flow::Flow;
 use uhura_net::{EdgeTable, Place};
 use uhura_plan::{Guard, Plan, REQUIREMENTS};
 use uhura_veto::Vetoes;
+use uhura_worst::fill;
 
 /// Fills the table, gives up the conflicts that don't outlast the change, and takes the edges that changed out of the
 /// flow: first without the slots that have another guard, if there are any, and then with all. Nothing is put into
@@ -42,6 +45,33 @@ pub(crate) fn take_over(learning: &mut Learning, guards: &mut [Guard], plan: &Pl
     let any = reguard(guards, &mut marks, plan);
     take_table(learning, plan, vetoes, &marks);
     put_back(learning, plan, vetoes, &marks, any);
+}
+
+/// Fills the table for a first question, before which nothing was kept: no conflict is there to be given up, and no
+/// edge to be taken out of the flow. All places are gone over once, so that those that have an edge needn't be put
+/// into their order one by one.
+pub(crate) fn take_first(
+    learning: &mut Learning,
+    guards: &mut [Guard],
+    plan: &Plan,
+    vetoes: &Vetoes,
+)
+    requires slots { length guards.old ≡ REQUIREMENTS }
+    requires over { IsOverTable learning.old }
+    requires empty { learning.old.store ≡ empty_store }
+    ensures kept { IsLearningFor (record { plan = plan.now; vetoes = vetoes.now }) learning.new }
+    ensures listed { AreListed learning.new.places learning.new.table }
+    ensures guards { HaveGuardsOf guards.new plan.now.requirements }
+    ensures literals { AllAskForGuards guards.new learning.new.store }
+    ensures store { KeepsNothing learning.new.store }
+    ensures flow { IsUnsettled learning.old.flow learning.new.flow }
+    ensures added { learning.new.added ≡ learning.old.added }
+{
+    let mut marks = [false; REQUIREMENTS as usize];
+    let _ = reguard(guards, &mut marks, plan);
+    fill(&mut learning.table, plan, vetoes);
+    learning.places.list(&learning.table);
+    learning.store.revise_at(&learning.table, learning.places.as_slice());
 }
 
 /// Takes over the whole table, where the edges in marked slots are left out so far, if there are any.
