@@ -71,7 +71,9 @@ pub(crate) fn take_first(
     let _ = reguard(guards, &mut marks, plan);
     fill(&mut learning.table, plan, vetoes);
     learning.places.list(&learning.table);
-    learning.store.revise_at(&learning.table, learning.places.as_slice());
+    learning
+        .store
+        .revise_at(&learning.table, learning.places.as_slice());
 }
 
 /// Takes over the whole table, where the edges in marked slots are left out so far, if there are any.
